@@ -1,0 +1,5 @@
+pub mod Decide
+pub mod Parts
+pub mod Firsts
+pub mod Sames
+pub mod Copies

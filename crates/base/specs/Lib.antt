@@ -1,0 +1,4 @@
+pub mod Pick
+pub mod Part
+pub mod First
+pub mod Same

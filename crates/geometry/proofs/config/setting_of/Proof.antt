@@ -1,0 +1,51 @@
+use borrow.Author.Needs.{needs}
+use Rattle.base.proofs.Decide.{decide}
+use mathlib.Core.Path.{_≡_}
+use lib.ListN.{length}
+use Rattle.geometry.specs.Config.{settingOf}
+use Rattle.geometry.proofs.config.setting_of.Statement.{statement}
+use Rattle.geometry.proofs.config.setting_of.Tie as tie
+
+array-read-two-bytes : tie.Need-array-read-two-bytes
+array-read-two-bytes c = search needs
+
+array-read-two-bytes-2 : tie.Need-array-read-two-bytes-2
+array-read-two-bytes-2 c = search needs
+
+two-bytes-requires : tie.Need-two-bytes-requires
+two-bytes-requires c κs = search needs
+
+array-read-setting-by : tie.Need-array-read-setting-by
+array-read-setting-by c = search needs
+
+array-read-setting-by-2 : tie.Need-array-read-setting-by-2
+array-read-setting-by-2 c = search needs
+
+array-read-setting-by-3 : tie.Need-array-read-setting-by-3
+array-read-setting-by-3 c = search needs
+
+array-read-setting-by-4 : tie.Need-array-read-setting-by-4
+array-read-setting-by-4 c = search needs
+
+setting-by-requires : tie.Need-setting-by-requires
+setting-by-requires c κs = search needs
+
+returns : tie.Need-returns
+unfolding settingOf
+returns c =
+    let e : length (c .before .before .args .t1) ≡ 10 = search needs in
+    search (needs, decide, ← (c .before .two-bytes .ensures), c .setting-by .ensures)
+
+pub setting-of-spec : {M : Type 1} → statement M
+setting-of-spec =
+    tie.close
+    (tie.spec
+    array-read-two-bytes
+    array-read-two-bytes-2
+    two-bytes-requires
+    array-read-setting-by
+    array-read-setting-by-2
+    array-read-setting-by-3
+    array-read-setting-by-4
+    setting-by-requires
+    returns)

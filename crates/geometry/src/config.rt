@@ -1,0 +1,125 @@
+// A drive's ten configuration bytes, and the label that holds them.
+use crate::params::Params;
+use base::{copy_bytes, same_bytes};
+ghost use mathlib.Core.Path.{_≡_};
+ghost use Prim.Native.Nat.{_+_, _*_, _≤_, _<_};
+ghost use lib.ListN.{length};
+ghost use Rattle.geometry.specs.Params.{Within};
+ghost use Rattle.geometry.specs.Config.{sizeFor, fittedTo, settingBy, settingOf, labelConfig, labelSetting};
+
+// What a configuration gives with an image of some length.
+pub enum Setting {
+    Valid(Params),
+    Invalid,
+}
+
+// Data bytes a sector and sectors a track.
+pub struct Size {
+    pub bytes: usize,
+    pub sectors: usize,
+}
+
+// By byte 4 of the configuration, from 1 on.
+const SIZES: [Size; 2] = [
+    Size { bytes: 256, sectors: 32 },
+    Size { bytes: 512, sectors: 17 },
+];
+
+fn size_for(byte: u8) -> Size
+    requires { ⌜ (1 ≤ byte) × (byte ≤ 2) ⌝ }
+    ensures { λ r. ⌜ r ≡ sizeFor byte ⌝ }
+{
+    let row = (byte - 1) as usize;
+    SIZES[row]
+}
+
+// A number of two bytes, high byte first.
+fn two_bytes(high: u8, low: u8) -> u32
+    ensures { λ r. ⌜ r ≡ high * 256 + low ⌝ }
+{
+    (high as u32) * 256 + (low as u32)
+}
+
+// The parameters, if the image is long enough for them.
+fn fitted(p: Params, image: usize) -> Setting
+    requires { ⌜ Within p ⌝ }
+    ensures { λ r. ⌜ r ≡ fittedTo p image ⌝ }
+{
+    if image < p.image_length() {
+        return Setting::Invalid;
+    }
+    Setting::Valid(p)
+}
+
+// The decision on a configuration's fields.
+fn setting_by(cylinders: u32, heads: u8, step: u8, size: u8, burst: u8, image: usize) -> Setting
+    ensures { λ r. ⌜ r ≡ settingBy cylinders heads step size burst image ⌝ }
+{
+    if cylinders < 1 {
+        return Setting::Invalid;
+    }
+    if 1024 < cylinders {
+        return Setting::Invalid;
+    }
+    if heads < 1 {
+        return Setting::Invalid;
+    }
+    if 7 < heads {
+        return Setting::Invalid;
+    }
+    if 4 < step / 16 {
+        return Setting::Invalid;
+    }
+    if 1 < step % 16 {
+        return Setting::Invalid;
+    }
+    if size < 1 {
+        return Setting::Invalid;
+    }
+    if 2 < size {
+        return Setting::Invalid;
+    }
+    if 11 < burst {
+        return Setting::Invalid;
+    }
+    let s = size_for(size);
+    fitted(
+        Params {
+            cylinders: cylinders,
+            heads: heads as u32,
+            sectors: s.sectors,
+            size: s.bytes,
+        },
+        image,
+    )
+}
+
+// The parameters of a configuration, if it is valid with an image of this length.
+pub fn setting_of(config: [u8; 10], image: usize) -> Setting
+    ensures { λ r. ⌜ r ≡ settingOf config image ⌝ }
+{
+    setting_by(two_bytes(config[0], config[1]), config[2], config[3], config[4], config[9], image)
+}
+
+// The label's ten configuration bytes.
+pub fn label_config(image: &[u8]) -> [u8; 10]
+    requires { ⌜ 10 ≤ length (now image) ⌝ }
+    ensures { λ r. ⌜ r ≡ labelConfig (now (image .entry)) ⌝ }
+{
+    let mut config = [0u8; 10];
+    copy_bytes(&mut config, &image[0..10]);
+    config
+}
+
+// The parameters of an image's label, if it is valid. An image under 16 bytes has none.
+pub fn label_setting(image: &[u8]) -> Setting
+    ensures { λ r. ⌜ r ≡ labelSetting (now (image .entry)) ⌝ }
+{
+    if image.len() < 16 {
+        return Setting::Invalid;
+    }
+    if !same_bytes(&image[10..16], &[0u8; 6]) {
+        return Setting::Invalid;
+    }
+    setting_of(label_config(image), image.len())
+}

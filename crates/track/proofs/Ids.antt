@@ -1,0 +1,35 @@
+-- Laws of ID bytes.
+use mathlib.Core.Path.{_≡_, refl, sym, ap, ap₂, _∙_}
+use mathlib.Core.Bool.{Bool, true, false, _&&_}
+use mathlib.Core.List.{List, [], _∷_, _++_}
+use Prim.Native.Nat.{ℕ, _+_, _*_, _/_, _%_}
+use native.Mathlib.Nat.{div-add-mod'}
+use lib.ListN.{length}
+use lib.Dec.{eqb}
+use borrow.Author.Tests.{eq-eqb}
+use Rattle.geometry.specs.declared.params.Params.{Params}
+use Rattle.geometry.specs.declared.params.Track.{Track}
+use Rattle.geometry.specs.Params.{cylinderOf, headOf}
+use Rattle.track.specs.declared.id.Id.{Id}
+use Rattle.track.specs.declared.id.State.{State}
+use Rattle.track.specs.Id.{track, idBytes, idIn, idFor, ownId}
+use Rattle.track.specs.Format.{withSector}
+
+pub id-length : (id : Id) → length (idBytes id) ≡ 8
+unfolding idBytes
+id-length id = refl
+
+-- what was written is read
+pub id-back : (id : Id) → idIn (idBytes id) ≡ id
+unfolding idIn idBytes
+id-back id =
+    ap₂ {C = Id} (λ (c : ℕ) (u : ℕ). record { mark = id .mark; cylinder = c; head = id .head; sector = id .sector; flag = id .flag; partner = track u })
+    (div-add-mod' (id .cylinder) 256) (div-add-mod' (id .partner .0) 256)
+
+pub own-for : (p : Params) (t : Track) (state : State) (s : ℕ) → ownId p t (idFor p t state s) ≡ true
+unfolding ownId idFor
+own-for p t state s = rw (eq-eqb (cylinderOf p t) (cylinderOf p t) refl, eq-eqb (headOf p t) (headOf p t) refl)
+
+pub sector-for : (p : Params) (t : Track) (state : State) (r s : ℕ) → withSector (idFor p t state r) s ≡ idFor p t state s
+unfolding withSector idFor
+sector-for p t state r s = refl

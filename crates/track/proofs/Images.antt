@@ -1,0 +1,92 @@
+-- What a track or a sector's data put into an image leaves as it was.
+use mathlib.Core.Path.{_≡_, refl, sym, ap, _∙_}
+use mathlib.Core.List.{List}
+use Prim.Native.Nat.{ℕ, _+_, _-_, _*_, _≤_, _<_}
+use native.Mathlib.Omega.{arith}
+use native.Mathlib.Decide.{decLt}
+use native.Mathlib.Nat.{mul-le-mul-right}
+use lib.ListN.{length}
+use Rattle.base.specs.Part.{part, splice}
+use Rattle.base.proofs.Parts.{length-part, length-splice, part-same, part-before, part-after, part-part, other-cell, cell-in}
+use Rattle.geometry.specs.declared.params.Params.{Params}
+use Rattle.geometry.specs.declared.params.Track.{Track}
+use Rattle.geometry.specs.Params.{trackCount, slotSize, trackSize, imageLength, trackStart}
+use Rattle.track.specs.Image.{trackBytes, withTrack, slotBytes, slotId, slotData, withData}
+
+-- ---- a track in an image
+module _ (p : Params) where
+  pub track-room : (t : Track) (len : ℕ) → t .0 < trackCount p → imageLength p ≤ len → trackStart p t + trackSize p ≤ len
+  track-room t len h f = omega (arith, cell-in (trackSize p) (t .0) (trackCount p) h)
+
+  module _ (image : List ℕ) (fits : imageLength p ≤ length image) where
+    pub length-track : (t : Track) → t .0 < trackCount p → length (trackBytes p t image) ≡ trackSize p
+    unfolding trackBytes
+    length-track t h = length-part (trackStart p t) (trackSize p) image (track-room t (length image) h fits)
+
+    module _ (t : Track) (bytes : List ℕ) (h : t .0 < trackCount p) (l : length bytes ≡ trackSize p) where
+      pub length-with-track : length (withTrack p t bytes image) ≡ length image
+      unfolding withTrack
+      length-with-track = length-splice (trackStart p t) bytes image (omega (arith, l, track-room t (length image) h fits))
+
+      -- the track itself
+      pub track-same : trackBytes p t (withTrack p t bytes image) ≡ bytes
+      unfolding trackBytes withTrack
+      track-same = part-same (trackStart p t) (trackSize p) bytes image l (track-room t (length image) h fits)
+
+      -- every other track
+      pub track-other : (u : Track) → u .0 < trackCount p → (t .0 ≡ u .0 → ⊥) → trackBytes p u (withTrack p t bytes image) ≡ trackBytes p u image
+      unfolding trackBytes withTrack
+      track-other u hu ne =
+          other-cell (trackSize p) (t .0) (u .0) (trackStart p t) (trackStart p u) (trackSize p) 16 bytes image ne
+          (omega arith) (omega (arith, l)) (omega arith) (omega arith) (omega (arith, l, track-room t (length image) h fits))
+
+      -- the label
+      pub label-kept : (at size : ℕ) → at + size ≤ 16 → part at size (withTrack p t bytes image) ≡ part at size image
+      unfolding withTrack
+      label-kept at size k = part-before at size (trackStart p t) bytes image (omega arith) (omega (arith, l, track-room t (length image) h fits))
+
+      -- bytes past the length that the parameters give
+      pub past-kept : (at size : ℕ) → imageLength p ≤ at → part at size (withTrack p t bytes image) ≡ part at size image
+      unfolding withTrack
+      past-kept at size k =
+          part-after at size (trackStart p t) bytes image
+          (omega (arith, l, track-room t (imageLength p) h (omega arith))) (omega (arith, l, track-room t (length image) h fits))
+
+-- ---- a sector's data in a track's stretch
+module _ (p : Params) (bytes : List ℕ) (l : length bytes ≡ trackSize p) where
+  -- a slot and its parts
+  pub slot-room : (k : ℕ) → k < p .sectors → k * slotSize p + slotSize p ≤ trackSize p
+  slot-room k h = cell-in (slotSize p) k (p .sectors) h
+
+  pub data-of-slot : (k : ℕ) → part 8 (p .size) (slotBytes p k bytes) ≡ slotData p k bytes
+  unfolding slotBytes slotData
+  data-of-slot k = part-part (k * slotSize p) (slotSize p) 8 (p .size) bytes (omega arith)
+
+  module _ (k : ℕ) (sector : List ℕ) (h : k < p .sectors) (ls : length sector ≡ p .size) where
+    data-room : k * slotSize p + 8 + length sector ≤ length bytes
+    data-room = omega (arith, ls, l, slot-room k h)
+
+    pub length-with-data : length (withData p k sector bytes) ≡ trackSize p
+    unfolding withData
+    length-with-data = length-splice (k * slotSize p + 8) sector bytes data-room ∙ l
+
+    pub data-same : slotData p k (withData p k sector bytes) ≡ sector
+    unfolding slotData withData
+    data-same = part-same (k * slotSize p + 8) (p .size) sector bytes ls (rw ls at data-room)
+
+    pub data-other : (j : ℕ) → j < p .sectors → (k ≡ j → ⊥) → slotData p j (withData p k sector bytes) ≡ slotData p j bytes
+    unfolding slotData withData
+    data-other j hj ne =
+        other-cell (slotSize p) k j (k * slotSize p + 8) (j * slotSize p + 8) (p .size) 0 sector bytes ne
+        (omega arith) (omega (arith, ls)) (omega arith) (omega arith) data-room
+
+    -- every ID stays
+    pub id-kept : (j : ℕ) → j < p .sectors → slotId p j (withData p k sector bytes) ≡ slotId p j bytes
+    unfolding slotId withData
+    id-kept j hj = by (decLt k j)
+      where
+        by : Dec (k < j) → part (j * slotSize p) 8 (splice (k * slotSize p + 8) sector bytes) ≡ part (j * slotSize p) 8 bytes
+        by (yes lt) = part-after (j * slotSize p) 8 (k * slotSize p + 8) sector bytes (omega (arith, ls, cell-in (slotSize p) k j lt)) data-room
+        by (no ge) =
+            let le : j ≤ k = omega arith in
+            part-before (j * slotSize p) 8 (k * slotSize p + 8) sector bytes (omega (arith, mul-le-mul-right (slotSize p) le)) data-room

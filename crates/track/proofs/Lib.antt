@@ -1,0 +1,4 @@
+pub mod Ids
+pub mod Images
+pub mod Formats
+pub mod Sounds

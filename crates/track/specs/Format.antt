@@ -1,0 +1,32 @@
+-- Document 01, 'Tracks and slots': a formatted track. A map lists the sector in each slot: the layout of an interleave.
+use Prim.Native.Nat.{ℕ, zero, suc, _+_}
+use mathlib.Core.List.{List, _++_}
+use lib.ListN.{length, getD}
+use Rattle.base.specs.Part.{rows}
+use Rattle.geometry.specs.declared.params.Params.{Params}
+use Rattle.geometry.specs.declared.params.Track.{Track}
+use Rattle.track.specs.declared.id.Id.{Id}
+use Rattle.track.specs.declared.id.State.{State}
+use Rattle.track.specs.declared.id.State.the-variants.{Sound}
+use Rattle.track.specs.Id.{track, idBytes, idFor}
+use Rattle.track.specs.Image.{withTrack}
+
+-- the ID with another sector
+unfoldable pub withSector : Id → (s : ℕ) → Id
+withSector id s = record { mark = id .mark; cylinder = id .cylinder; head = id .head; sector = s; flag = id .flag; partner = id .partner }
+
+-- slot k, whole: the ID, then the data
+unfoldable pub slotMade : Id → (map fill : List ℕ) → (k : ℕ) → List ℕ
+slotMade id map fill k = idBytes (withSector id (getD map k 0)) ++ fill
+
+-- The slots one after the other, as a format writes them.
+unfoldable pub slotsMade : Id → (map fill : List ℕ) → List ℕ
+slotsMade id map fill = rows (slotMade id map fill) (length map)
+
+unfoldable pub formatted : Params → Track → State → (map fill : List ℕ) → List ℕ
+formatted p t state map fill = slotsMade (idFor p t state 0) map fill
+
+-- n tracks from track t on become sound
+unfoldable pub soundFrom : Params → (map fill : List ℕ) → (n t : ℕ) → List ℕ → List ℕ
+soundFrom p map fill zero t image = image
+soundFrom p map fill (suc n) t image = soundFrom p map fill n (t + 1) (withTrack p (track t) (formatted p (track t) Sound map fill) image)

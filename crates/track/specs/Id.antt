@@ -1,0 +1,61 @@
+-- Document 01, 'Tracks and slots': a track's states and a slot's 8 ID bytes.
+use Prim.Native.Nat.{ℕ, _+_, _*_, _/_, _%_}
+use mathlib.Core.Bool.{Bool, _&&_}
+use mathlib.Core.List.{List, [], _∷_}
+use lib.ListN.{getD}
+use lib.Dec.{eqb}
+use Rattle.geometry.specs.declared.params.Params.{Params}
+use Rattle.geometry.specs.declared.params.Track.{Track}
+use Rattle.geometry.specs.Params.{cylinderOf, headOf}
+use Rattle.track.specs.declared.id.Id.{Id}
+use Rattle.track.specs.declared.id.State.{State}
+use Rattle.track.specs.declared.id.State.the-variants.{Sound, Bad, Moved, Taken}
+
+-- track number k
+abbrev pub track : ℕ → Track
+track k = record { 0 = k }
+
+-- Flag 0 sound, 1 bad, 2 moved to the partner, 3 taken by the partner.
+unfoldable pub flagOf : State → ℕ
+flagOf Sound = 0
+flagOf Bad = 1
+flagOf (Moved u) = 2
+flagOf (Taken u) = 3
+
+-- For 0 and 1 the partner is 0.
+unfoldable pub partnerOf : State → Track
+partnerOf Sound = track 0
+partnerOf Bad = track 0
+partnerOf (Moved u) = u
+partnerOf (Taken u) = u
+
+-- A1h, cylinder (high, low), head, sector, flag, partner track (high, low).
+unfoldable pub idBytes : Id → List ℕ
+idBytes id =
+    id .mark ∷ id .cylinder / 256 ∷ id .cylinder % 256 ∷ id .head ∷ id .sector ∷ id .flag
+    ∷ id .partner .0 / 256 ∷ id .partner .0 % 256 ∷ []
+
+unfoldable pub idIn : List ℕ → Id
+idIn bytes = record {
+  mark = getD bytes 0 0;
+  cylinder = getD bytes 1 0 * 256 + getD bytes 2 0;
+  head = getD bytes 3 0;
+  sector = getD bytes 4 0;
+  flag = getD bytes 5 0;
+  partner = track (getD bytes 6 0 * 256 + getD bytes 7 0)
+}
+
+-- The ID of sector s in track t. All slots of a formatted track carry the same flag and partner.
+unfoldable pub idFor : Params → Track → State → (s : ℕ) → Id
+idFor p t state s = record {
+  mark = 0xA1;
+  cylinder = cylinderOf p t;
+  head = headOf p t;
+  sector = s;
+  flag = flagOf state;
+  partner = partnerOf state
+}
+
+-- The cylinder and head are t's own.
+unfoldable pub ownId : Params → Track → Id → Bool
+ownId p t id = eqb (id .cylinder) (cylinderOf p t) && eqb (id .head) (headOf p t)

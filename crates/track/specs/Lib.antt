@@ -1,0 +1,6 @@
+pub mod Id
+pub mod Image
+pub mod Format
+pub mod Find
+pub mod Check
+pub mod Pair

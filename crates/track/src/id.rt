@@ -1,0 +1,126 @@
+// A slot's ID bytes, and a track's state.
+use geometry::params::{Params, Track};
+ghost use mathlib.Core.Path.{_≡_};
+ghost use mathlib.Core.List.{_++_};
+ghost use Prim.Native.Nat.{_+_, _*_, _≤_, _<_};
+ghost use lib.ListN.{length, drop};
+ghost use Rattle.geometry.specs.Params.{Within, trackCount};
+ghost use Rattle.track.specs.Id.{flagOf, partnerOf, idBytes, idIn, idFor, ownId};
+ghost use Rattle.track.specs.Image.{Fits, firstId};
+
+pub const ID_MARK: u8 = 0xA1;
+
+// The state that a format gives a track.
+pub enum State {
+    Sound,
+    Bad,
+    Moved(Track),
+    Taken(Track),
+}
+
+// What the 8 ID bytes of a slot say.
+pub struct Id {
+    pub mark: u8,
+    pub cylinder: u16,
+    pub head: u8,
+    pub sector: u8,
+    pub flag: u8,
+    pub partner: Track,
+}
+
+pub fn flag_of(state: State) -> u8
+    ensures { λ r. ⌜ r ≡ flagOf state ⌝ }
+{
+    match state {
+        State::Sound => 0,
+        State::Bad => 1,
+        State::Moved(_) => 2,
+        State::Taken(_) => 3,
+    }
+}
+
+pub fn partner_of(state: State) -> Track
+    ensures { λ r. ⌜ r ≡ partnerOf state ⌝ }
+{
+    match state {
+        State::Sound => Track(0),
+        State::Bad => Track(0),
+        State::Moved(partner) => partner,
+        State::Taken(partner) => partner,
+    }
+}
+
+// The ID of sector s in a track of this state.
+pub fn id_for(p: Params, t: Track, state: State, s: u8) -> Id
+    requires { ⌜ Within p × (t .0 < trackCount p) ⌝ }
+    ensures { λ r. ⌜ r ≡ idFor p t state s ⌝ }
+{
+    Id {
+        mark: ID_MARK,
+        cylinder: p.cylinder_of(t),
+        head: p.head_of(t),
+        sector: s,
+        flag: flag_of(state),
+        partner: partner_of(state),
+    }
+}
+
+// Writes the 8 ID bytes at the front of a slot.
+pub fn write_id(slot: &mut [u8], id: Id)
+    requires { ⌜ (8 ≤ length (now slot)) × (id .partner .0 < 65536) ⌝ }
+    ensures { λ _. ⌜ now (slot .exit) ≡ idBytes id ++ drop 8 (now (slot .entry)) ⌝ }
+{
+    let partner = id.partner;
+    slot[0] = id.mark;
+    slot[1] = (id.cylinder / 256) as u8;
+    slot[2] = (id.cylinder % 256) as u8;
+    slot[3] = id.head;
+    slot[4] = id.sector;
+    slot[5] = id.flag;
+    slot[6] = (partner.0 / 256) as u8;
+    slot[7] = (partner.0 % 256) as u8;
+}
+
+fn two_bytes(high: u8, low: u8) -> u16
+    ensures { λ r. ⌜ r ≡ high * 256 + low ⌝ }
+{
+    (high as u16) * 256 + (low as u16)
+}
+
+// Reads the 8 ID bytes of a slot.
+pub fn read_id(slot: &[u8]) -> Id
+    requires { ⌜ 8 ≤ length (now slot) ⌝ }
+    ensures { λ r. ⌜ r ≡ idIn (now (slot .entry)) ⌝ }
+{
+    Id {
+        mark: slot[0],
+        cylinder: two_bytes(slot[1], slot[2]),
+        head: slot[3],
+        sector: slot[4],
+        flag: slot[5],
+        partner: Track(two_bytes(slot[6], slot[7]) as u32),
+    }
+}
+
+// Whether an ID's cylinder and head are the track's own.
+pub fn is_own(p: Params, t: Track, id: Id) -> bool
+    requires { ⌜ Within p × (t .0 < trackCount p) ⌝ }
+    ensures { λ r. ⌜ r ≡ ownId p t id ⌝ }
+{
+    if id.cylinder == p.cylinder_of(t) {
+        id.head == p.head_of(t)
+    } else {
+        false
+    }
+}
+
+// The ID of a track's slot 0.
+pub fn first_id(image: &[u8], p: Params, t: Track) -> Id
+    requires { ⌜ Fits p (now image) × (t .0 < trackCount p) ⌝ }
+    ensures { λ r. ⌜ r ≡ firstId p t (now (image .entry)) ⌝ }
+{
+    let place = p.stretch(t);
+    let start = place.start;
+    let end = start + 8;
+    read_id(&image[start..end])
+}
