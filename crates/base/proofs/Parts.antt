@@ -94,15 +94,15 @@ splice-splice a n b ys xs h k =
     let le : length (take b P ++ (ys ++ drop (b + length ys) P)) ≡ n = simp (length-append, length-take, length-drop) (omega (arith, lp)) in
     let sum : a + (b + length ys) ≡ a + b + length ys = omega arith in
     let tail : drop (b + length ys) P ++ drop (a + n) xs ≡ drop (a + b + length ys) xs =
-        ap (λ (l : List ℕ). drop (b + length ys) P ++ l) (sym (drop-drop n a xs))
-        ∙ sym (drop-append-le (b + length ys) P (drop n (drop a xs)) (omega (arith, lp)))
-        ∙ ap (λ (l : List ℕ). drop (b + length ys) l) (take-append-drop n (drop a xs))
-        ∙ drop-drop (b + length ys) a xs ∙ ap (λ (i : ℕ). drop i xs) sum in
+    ap (λ (l : List ℕ). drop (b + length ys) P ++ l) (sym (drop-drop n a xs))
+    ∙ sym (drop-append-le (b + length ys) P (drop n (drop a xs)) (omega (arith, lp)))
+    ∙ ap (λ (l : List ℕ). drop (b + length ys) l) (take-append-drop n (drop a xs))
+    ∙ drop-drop (b + length ys) a xs ∙ ap (λ (i : ℕ). drop i xs) sum in
     ap (λ (i : ℕ). take a xs ++ ((take b P ++ (ys ++ drop (b + length ys) P)) ++ drop (a + i) xs)) le
     ∙ ap (λ (l : List ℕ). take a xs ++ l)
-        (append-assoc (take b P) (ys ++ drop (b + length ys) P) (drop (a + n) xs)
-          ∙ ap (λ (l : List ℕ). take b P ++ l) (append-assoc ys (drop (b + length ys) P) (drop (a + n) xs) ∙ ap (λ (l : List ℕ). ys ++ l) tail)
-          ∙ ap (λ (l : List ℕ). l ++ (ys ++ drop (a + b + length ys) xs)) (take-take b n (drop a xs) (omega arith)))
+    (append-assoc (take b P) (ys ++ drop (b + length ys) P) (drop (a + n) xs)
+    ∙ ap (λ (l : List ℕ). take b P ++ l) (append-assoc ys (drop (b + length ys) P) (drop (a + n) xs) ∙ ap (λ (l : List ℕ). ys ++ l) tail)
+    ∙ ap (λ (l : List ℕ). l ++ (ys ++ drop (a + b + length ys) xs)) (take-take b n (drop a xs) (omega arith)))
     ∙ sym (append-assoc (take a xs) (take b (drop a xs)) (ys ++ drop (a + b + length ys) xs))
     ∙ ap (λ (l : List ℕ). l ++ (ys ++ drop (a + b + length ys) xs)) (sym (take-add a b xs))
 

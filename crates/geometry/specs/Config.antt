@@ -30,7 +30,7 @@ unfoldable pub settingBy : (cylinders heads step size burst image : ℕ) → Set
 settingBy cylinders heads step size burst image =
     pick
     (leb 1 cylinders && leb cylinders 1024 && leb 1 heads && leb heads 7
-      && leb (step / 16) 4 && leb (step % 16) 1 && leb 1 size && leb size 2 && leb burst 11)
+    && leb (step / 16) 4 && leb (step % 16) 1 && leb 1 size && leb size 2 && leb burst 11)
     (fittedTo (record { cylinders = cylinders; heads = heads; sectors = sizeFor size .sectors; size = sizeFor size .bytes }) image)
     Invalid
 

@@ -1,6 +1,7 @@
 // A drive's ten configuration bytes, and the label that holds them.
 use crate::params::Params;
-use base::{copy_bytes, same_bytes};
+use base::copy_bytes;
+use base::same_bytes;
 ghost use mathlib.Core.Path.{_≡_};
 ghost use Prim.Native.Nat.{_+_, _*_, _≤_, _<_};
 ghost use lib.ListN.{length};
@@ -21,8 +22,14 @@ pub struct Size {
 
 // By byte 4 of the configuration, from 1 on.
 const SIZES: [Size; 2] = [
-    Size { bytes: 256, sectors: 32 },
-    Size { bytes: 512, sectors: 17 },
+    Size {
+        bytes: 256,
+        sectors: 32,
+    },
+    Size {
+        bytes: 512,
+        sectors: 17,
+    },
 ];
 
 fn size_for(byte: u8) -> Size
@@ -98,7 +105,14 @@ fn setting_by(cylinders: u32, heads: u8, step: u8, size: u8, burst: u8, image: u
 pub fn setting_of(config: [u8; 10], image: usize) -> Setting
     ensures { λ r. ⌜ r ≡ settingOf config image ⌝ }
 {
-    setting_by(two_bytes(config[0], config[1]), config[2], config[3], config[4], config[9], image)
+    setting_by(
+        two_bytes(config[0], config[1]),
+        config[2],
+        config[3],
+        config[4],
+        config[9],
+        image,
+    )
 }
 
 // The label's ten configuration bytes.

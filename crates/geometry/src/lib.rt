@@ -1,3 +1,3 @@
 // Logical addresses, tracks and a drive's parameters.
-pub mod params;
 pub mod config;
+pub mod params;

@@ -15,7 +15,6 @@ use borrow.Author.Tests.{eq-eqb, ne-eqb}
 use Rattle.base.specs.Pick.{pick}
 use Rattle.interleave.specs.Layout.{emptyFrom, Laid, put, place, laid, layoutOf}
 
-
 -- the next slot, upward and round
 round-up : (p n : ℕ) → p + 1 < n → (p + 1) % n ≡ p + 1
 round-up p n h = mod-eq-of-lt h
@@ -34,18 +33,20 @@ step-on n p i j pn jn ne (inl e) =
     let h : 0 < i = ⊎-elim (λ z. absurd (ne (omega arith))) (λ l. l) (eq-zero-or-pos i) in
     (h, inl (simp (round-up p n (omega arith)) (omega arith)))
 step-on n p i j pn jn ne (inr e) =
-    let h : 0 < i = omega arith in
-    (h, elim (decLt (p + 1) n) [
-      yes l ↦ inr (simp (round-up p n l) (omega arith))
-      | no g ↦ inl (simp (round-end p n (omega arith)) (omega arith))
-    ])
+    let h : 0 < i = omega arith in (
+      h,
+      elim (decLt (p + 1) n) [
+        | yes l ↦ inr (simp (round-up p n l) (omega arith))
+        | no g ↦ inl (simp (round-end p n (omega arith)) (omega arith))
+      ],
+    )
 
 -- j is reached from any p in less than n steps
 reach : (n p j : ℕ) → p < n → j < n → (i : ℕ) × (i < n) × Reached n p i j
 unfolding Reached
 reach n p j pn jn =
     elim (decLt j p) [
-      yes l ↦ (j + n - p, omega arith, inr (omega arith))
+      | yes l ↦ (j + n - p, omega arith, inr (omega arith))
       | no g ↦ (j - p, omega arith, inl (omega arith))
     ]
 
@@ -56,10 +57,10 @@ module _ (m : List ℕ) (n j : ℕ) (jn : j < n) (free : getD m j 0 ≡ n) where
   found zero p i pn r h = absurd (not-suc-le-zero h)
   found (suc k) p i pn r h =
       elim (ℕ-discrete (getD m p 0) n) [
-        yes e ↦ simp (eq-eqb _ _ e) (pn, e)
+        | yes e ↦ simp (eq-eqb _ _ e) (pn, e)
         | no ne ↦
-          let on = step-on n p i j pn jn (λ e. ne (ap (λ (x : ℕ). getD m x 0) e ∙ free)) r in
-          simp (ne-eqb _ _ ne) (found k ((p + 1) % n) (i - 1) (mod-lt (p + 1) (omega arith)) (on .1) (omega arith))
+            let on = step-on n p i j pn jn (λ e. ne (ap (λ (x : ℕ). getD m x 0) e ∙ free)) r in
+            simp (ne-eqb _ _ ne) (found k ((p + 1) % n) (i - 1) (mod-lt (p + 1) (omega arith)) (on .1) (omega arith))
       ]
 
   found-any : (p : ℕ) → p < n → (emptyFrom m n n p < n) × (getD m (emptyFrom m n n p) 0 ≡ n)
@@ -103,10 +104,10 @@ unfolding countOf pick
 count-at x [] h = absurd (not-suc-le-zero h)
 count-at x (y ∷ m) h =
     elim (ℕ-discrete y x) [
-      yes e ↦ (zero, omega arith, e)
+      | yes e ↦ (zero, omega arith, e)
       | no ne ↦
-        let r = count-at x m (simp (ne-eqb _ _ ne) at h) in
-        (suc (r .0), omega arith, r .2)
+          let r = count-at x m (simp (ne-eqb _ _ ne) at h) in
+          (suc (r .0), omega arith, r .2)
     ]
 
 count-some : (x : ℕ) (m : List ℕ) (j : ℕ) → j < length m → getD m j 0 ≡ x → 0 < countOf x m
@@ -115,7 +116,7 @@ count-some x [] j h e = absurd (not-suc-le-zero h)
 count-some x (y ∷ m) zero h e = simp (eq-eqb _ _ e) (omega arith)
 count-some x (y ∷ m) (suc j) h e =
     elim (ℕ-discrete y x) [
-      yes z ↦ simp (eq-eqb _ _ z) (omega arith)
+      | yes z ↦ simp (eq-eqb _ _ z) (omega arith)
       | no z ↦ simp (ne-eqb _ _ z) (count-some x m j (le-of-suc-le-suc h) e)
     ]
 
@@ -126,7 +127,7 @@ count-set x v [] q h e ne = absurd (not-suc-le-zero h)
 count-set x v (y ∷ m) zero h e ne = simp (eq-eqb _ _ e, ne-eqb _ _ ne)
 count-set x v (y ∷ m) (suc q) h e ne =
     elim (ℕ-discrete y x) [
-      yes z ↦ simp (eq-eqb _ _ z) (ap suc (count-set x v m q (le-of-suc-le-suc h) e ne))
+      | yes z ↦ simp (eq-eqb _ _ z) (ap suc (count-set x v m q (le-of-suc-le-suc h) e ne))
       | no z ↦ simp (ne-eqb _ _ z) (count-set x v m q (le-of-suc-le-suc h) e ne)
     ]
 
@@ -158,17 +159,17 @@ module _ (n k s : ℕ) (m : List ℕ) (q z : ℕ) (sn : s < n) (good : Good n k 
   put-low : (j : ℕ) → j < n → (getD (set m q s) j 0 ≡ n) ⊎ (getD (set m q s) j 0 ≤ s)
   put-low j jn =
       elim (ℕ-discrete j q) [
-        yes e ↦ inr (rw e (omega (arith, there)))
+        | yes e ↦ inr (rw e (omega (arith, there)))
         | no ne ↦ rw (elsewhere j ne) (⊎-elim (λ e. inl e) (λ (l : getD m j 0 ≤ k). inr (omega arith)) (good .low j jn))
       ]
 
   put-has : (t : ℕ) → t ≤ s → (j : ℕ) × (j < n) × (getD (set m q s) j 0 ≡ t)
   put-has t h =
       elim (ℕ-discrete t s) [
-        yes e ↦ (q, qn, there ∙ sym e)
+        | yes e ↦ (q, qn, there ∙ sym e)
         | no ne ↦
-          let r = good .has t (omega arith) in
-          (r .0, r .1, elsewhere (r .0) (λ e. absurd (let x : getD m (r .0) 0 ≡ n = ap (λ (y : ℕ). getD m y 0) e ∙ free in omega arith)) ∙ r .2)
+            let r = good .has t (omega arith) in
+            (r .0, r .1, elsewhere (r .0) (λ e. absurd (let x : getD m (r .0) 0 ≡ n = ap (λ (y : ℕ). getD m y 0) e ∙ free in omega arith)) ∙ r .2)
       ]
 
   put-only : (j : ℕ) → j < n → (j ≡ q → ⊥) → getD (set m q s) j 0 ≡ s → ⊥
@@ -179,12 +180,12 @@ module _ (n k s : ℕ) (m : List ℕ) (q z : ℕ) (sn : s < n) (good : Good n k 
   put-one : (i j : ℕ) → i < n → j < n → getD (set m q s) i 0 ≡ getD (set m q s) j 0 → getD (set m q s) i 0 < n → i ≡ j
   put-one i j hi hj e l =
       elim (ℕ-discrete i q) [
-        yes a ↦ elim (ℕ-discrete j q) [
-          yes b ↦ a ∙ sym b
+        | yes a ↦ elim (ℕ-discrete j q) [
+          | yes b ↦ a ∙ sym b
           | no b ↦ absurd (put-only j hj b (sym e ∙ ap (λ (y : ℕ). getD (set m q s) y 0) a ∙ there))
         ]
         | no a ↦ elim (ℕ-discrete j q) [
-          yes b ↦ absurd (put-only i hi a (e ∙ ap (λ (y : ℕ). getD (set m q s) y 0) b ∙ there))
+          | yes b ↦ absurd (put-only i hi a (e ∙ ap (λ (y : ℕ). getD (set m q s) y 0) b ∙ there))
           | no b ↦ good .one i j hi hj (sym (elsewhere i a) ∙ e ∙ elsewhere j b) (subst (λ (y : ℕ). y < n) (elsewhere i a) l)
         ]
       ]
@@ -197,7 +198,7 @@ module _ (n k s : ℕ) (m : List ℕ) (q z : ℕ) (sn : s < n) (good : Good n k 
     last-in = qn;
     low = put-low;
     has = put-has;
-    one = put-one
+    one = put-one;
   }
 
 -- sector 0 alone
@@ -207,23 +208,23 @@ good-first n f h =
     let in-range : 0 < length (replicate n n) = omega (arith, length-replicate n n) in
     let there : getD (set (replicate n n) 0 0) 0 0 ≡ 0 = getD-set-same (replicate n n) 0 0 0 in-range in
     let elsewhere : (j : ℕ) → j < n → (j ≡ 0 → ⊥) → getD (set (replicate n n) 0 0) j 0 ≡ n =
-      λ j jn ne. getD-set-other (replicate n n) 0 j 0 0 ne ∙ getD-replicate n j n 0 jn in
+    λ j jn ne. getD-set-other (replicate n n) 0 j 0 0 ne ∙ getD-replicate n j n 0 jn in
     record {
       len = length-set (replicate n n) 0 0 ∙ length-replicate n n;
       room = omega (arith, count-set n 0 (replicate n n) 0 in-range (getD-replicate n 0 n 0 h) (λ e. absurd (omega arith)), count-replicate n n);
       last-in = h;
       low = λ j jn. elim (ℕ-discrete j 0) [
-        yes e ↦ inr (rw e (omega (arith, there)))
+        | yes e ↦ inr (rw e (omega (arith, there)))
         | no ne ↦ inl (elsewhere j jn ne)
       ];
       has = λ s l. (0, h, there ∙ omega arith);
       one = λ i j hi hj e l. elim (ℕ-discrete i 0) [
-        yes a ↦ elim (ℕ-discrete j 0) [
-          yes b ↦ a ∙ sym b
+        | yes a ↦ elim (ℕ-discrete j 0) [
+          | yes b ↦ a ∙ sym b
           | no b ↦ absurd (let x : 0 ≡ n = sym there ∙ ap (λ (y : ℕ). getD (set (replicate n n) 0 0) y 0) (sym a) ∙ e ∙ elsewhere j hj b in omega arith)
         ]
         | no a ↦ absurd (omega (arith, elsewhere i hi a))
-      ]
+      ];
     }
 
 -- the slot that the next sector goes to is empty
@@ -326,7 +327,7 @@ filled-first n f h l =
       is = ap (λ (m : List ℕ). set m 0 0) (sym whole) ∙ set-append-left (replicate n n) (replicate (32 - n) n) 0 0 (omega (arith, length-replicate n n));
       at = refl;
       inside = h;
-      len = length-set (replicate 32 n) 0 0 ∙ length-replicate 32 n
+      len = length-set (replicate 32 n) 0 0 ∙ length-replicate 32 n;
     }
 
 laid-next : (n f s : ℕ) → 0 < s → laid n f s ≡ place n f s (laid n f (s - 1))
@@ -341,19 +342,19 @@ filled-next n f s map p q l h fill e =
     let t = replicate (32 - n) n in
     let good = good-laid n f (s - 1) (omega (arith, fill .some)) in
     let slot : q ≡ emptyFrom (b .map) n n ((b .last + f) % n) =
-      e ∙ ap (λ (m : List ℕ). emptyFrom m n n ((p + f) % n)) (fill .is) ∙ look-append (b .map) t n (good .len) n ((p + f) % n) (mod-lt (p + f) (omega arith))
-          ∙ ap (λ (x : ℕ). emptyFrom (b .map) n n ((x + f) % n)) (fill .at) in
+    e ∙ ap (λ (m : List ℕ). emptyFrom m n n ((p + f) % n)) (fill .is) ∙ look-append (b .map) t n (good .len) n ((p + f) % n) (mod-lt (p + f) (omega arith))
+    ∙ ap (λ (x : ℕ). emptyFrom (b .map) n n ((x + f) % n)) (fill .at) in
     let free = next-free n f (s - 1) b good (omega (arith, fill .some)) in
     let q-in : q < n = subst (λ (x : ℕ). x < n) (sym slot) (free .0) in
     let now : laid n f (s + 1 - 1) ≡ record { map = set (b .map) q s; last = q } =
-      ap (λ (k : ℕ). laid n f k) (omega arith) ∙ laid-next n f s (fill .some) ∙ ap (λ (x : ℕ). put s (b .map) x) (sym slot) in
+    ap (λ (k : ℕ). laid n f k) (omega arith) ∙ laid-next n f s (fill .some) ∙ ap (λ (x : ℕ). put s (b .map) x) (sym slot) in
     record {
       some = omega arith;
       most = omega arith;
       is = ap (λ (m : List ℕ). set m q s) (fill .is) ∙ set-append-left (b .map) t q s (omega (arith, good .len)) ∙ ap (λ (x : Laid). x .map ++ t) (sym now);
       at = ap (λ (x : Laid). x .last) (sym now);
       inside = q-in;
-      len = length-set map q s ∙ fill .len
+      len = length-set map q s ∙ fill .len;
     }
 
 pub filled-last : (n f s : ℕ) (map : List ℕ) (p : ℕ) → n ≤ s → Filled n f s map p → map ≡ layoutOf n f ++ replicate (32 - n) n

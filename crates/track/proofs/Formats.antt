@@ -10,10 +10,10 @@ use lib.ListN.{length, take, drop, getD, length-append, length-drop, drop-of-len
 use lib.Seq.{take-at, drop-at, drop-drop, take-all}
 use borrow.Rule.Slice.PartMut.{putMid, post-is, same-len-mid, mid-len}
 use Rattle.base.specs.Part.{part, rows}
-use Rattle.base.proofs.Parts.{length-rows, part-row, cell-in}
+use Rattle.base.proofs.Parts.{length-rows, part-row, cell-in, splice-lent}
 use Rattle.geometry.specs.declared.params.Params.{Params}
 use Rattle.geometry.specs.declared.params.Track.{Track}
-use Rattle.geometry.specs.Params.{trackCount, slotSize, trackSize, imageLength}
+use Rattle.geometry.specs.Params.{trackCount, slotSize, trackSize, imageLength, trackStart}
 use Rattle.track.specs.declared.id.Id.{Id}
 use Rattle.track.specs.declared.id.State.{State}
 use Rattle.track.specs.declared.id.State.the-variants.{Sound}
@@ -95,7 +95,7 @@ module _ (track₀ : List ℕ) (id : Id) (map fill : List ℕ) (whole : length t
           most = omega arith;
           place = rw (add-one, suc-mul) (omega (arith, w .place));
           is = put ∙ rw (before, after, e, add-one, append-assoc);
-          len = same-len-mid at (end - at) track slot (ap length e ∙ length-slot id map fill k ∙ omega (arith, mid-len at end track (omega (arith, made-room l)))) ∙ w .len
+          len = same-len-mid at (end - at) track slot (ap length e ∙ length-slot id map fill k ∙ omega (arith, mid-len at end track (omega (arith, made-room l)))) ∙ w .len;
         }
 
     pub made-all : length map ≤ k → track ≡ slotsMade id map fill
@@ -104,3 +104,25 @@ module _ (track₀ : List ℕ) (id : Id) (map fill : List ℕ) (whole : length t
         let e : k ≡ length map = omega (arith, w .most) in
         let none : drop at track₀ ≡ [] = drop-of-length-le track₀ {i = at} (omega (arith, w .place, ap (λ (n : ℕ). n * (8 + length fill)) e)) in
         w .is ∙ rw (none, append-nil, e)
+
+-- ---- one slot: the ID bytes, then the data in the rest, which is lent
+pub slot-written : (id : Id) (rest slot lent fill : List ℕ) → slot ≡ idBytes id ++ rest → lent ≡ fill → putMid 8 (length slot - 8) slot lent ≡ idBytes id ++ fill
+slot-written id rest slot lent fill e f =
+    let front : take 8 slot ≡ idBytes id = ap (take 8) e ∙ take-at (idBytes id) rest 8 (id-length id) in
+    let back : drop (length slot - 8) (drop 8 slot) ≡ [] = drop-of-length-le (drop 8 slot) {i = length slot - 8} (omega (arith, length-drop 8 slot)) in
+    rw (front, back, f, append-nil)
+
+-- a track formatted in its stretch, which is lent
+pub format-lent : (p : Params) (t : Track) (state : State) (map fill image : List ℕ) (start end : ℕ) (id : Id) (lent : List ℕ)
+    → length map ≡ p .sectors → length fill ≡ p .size → start ≡ trackStart p t → end ≡ trackStart p t + trackSize p
+    → id ≡ idFor p t state 0 → lent ≡ slotsMade id map fill → putMid start (end - start) image lent ≡ withTrack p t (formatted p t state map fill) image
+unfolding withTrack formatted
+format-lent p t state map fill image start end id lent lm lf es ee ei el =
+    let is : lent ≡ slotsMade (idFor p t state 0) map fill = el ∙ ap (λ (i : Id). slotsMade i map fill) ei in
+    let long : length (slotsMade (idFor p t state 0) map fill) ≡ trackSize p = length-slots (idFor p t state 0) map fill ∙ rw (lm, lf) in
+    rw (is, es) (splice-lent (trackStart p t) end image (slotsMade (idFor p t state 0) map fill) (omega (arith, ee, long)))
+
+-- a slot as the calls make it
+pub slot-called : (id other : Id) (map fill slot : List ℕ) (k : ℕ) → other ≡ withSector id (getD map k 0) → slot ≡ idBytes other ++ fill → slot ≡ slotMade id map fill k
+unfolding slotMade
+slot-called id other map fill slot k eo es = es ∙ ap (λ (i : Id). idBytes i ++ fill) eo

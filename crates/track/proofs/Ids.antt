@@ -6,7 +6,7 @@ use Prim.Native.Nat.{ℕ, _+_, _*_, _/_, _%_}
 use native.Mathlib.Nat.{div-add-mod'}
 use lib.ListN.{length}
 use lib.Dec.{eqb}
-use borrow.Author.Tests.{eq-eqb}
+use borrow.Author.Tests.{eq-eqb, ne-eqb}
 use Rattle.geometry.specs.declared.params.Params.{Params}
 use Rattle.geometry.specs.declared.params.Track.{Track}
 use Rattle.geometry.specs.Params.{cylinderOf, headOf}
@@ -33,3 +33,13 @@ own-for p t state s = rw (eq-eqb (cylinderOf p t) (cylinderOf p t) refl, eq-eqb 
 pub sector-for : (p : Params) (t : Track) (state : State) (r s : ℕ) → withSector (idFor p t state r) s ≡ idFor p t state s
 unfolding withSector idFor
 sector-for p t state r s = refl
+
+-- the test of a track's own cylinder and head
+module _ (p : Params) (t : Track) (id : Id) (cylinder : ℕ) (ec : cylinder ≡ cylinderOf p t) where
+  pub own-cylinder : (head : ℕ) → head ≡ headOf p t → id .cylinder ≡ cylinder → eqb (id .head) head ≡ ownId p t id
+  unfolding ownId
+  own-cylinder head eh e = rw (eq-eqb (id .cylinder) (cylinderOf p t) (e ∙ ec), eh)
+
+  pub other-cylinder : (id .cylinder ≡ cylinder → ⊥) → false ≡ ownId p t id
+  unfolding ownId
+  other-cylinder ne = rw (ne-eqb (id .cylinder) (cylinderOf p t) (λ e. ne (e ∙ sym ec)))

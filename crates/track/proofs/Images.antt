@@ -4,10 +4,11 @@ use mathlib.Core.List.{List}
 use Prim.Native.Nat.{ℕ, _+_, _-_, _*_, _≤_, _<_}
 use native.Mathlib.Omega.{arith}
 use native.Mathlib.Decide.{decLt}
-use native.Mathlib.Nat.{mul-le-mul-right}
-use lib.ListN.{length}
+use native.Mathlib.Nat.{mul-le-mul-right, zero-mul}
+use lib.ListN.{length, take, drop}
+use borrow.Rule.Slice.PartMut.{putMid}
 use Rattle.base.specs.Part.{part, splice}
-use Rattle.base.proofs.Parts.{length-part, length-splice, part-same, part-before, part-after, part-part, other-cell, cell-in}
+use Rattle.base.proofs.Parts.{length-part, length-splice, part-same, part-before, part-after, part-part, other-cell, cell-in, part-lent, splice-lent, splice-splice}
 use Rattle.geometry.specs.declared.params.Params.{Params}
 use Rattle.geometry.specs.declared.params.Track.{Track}
 use Rattle.geometry.specs.Params.{trackCount, slotSize, trackSize, imageLength, trackStart}
@@ -90,3 +91,43 @@ module _ (p : Params) (bytes : List ℕ) (l : length bytes ≡ trackSize p) wher
         by (no ge) =
             let le : j ≤ k = omega arith in
             part-before (j * slotSize p) 8 (k * slotSize p + 8) sector bytes (omega (arith, mul-le-mul-right (slotSize p) le)) data-room
+
+-- ---- what is lent of an image
+pub track-lent : (p : Params) (t : Track) (image : List ℕ) (start end : ℕ) → start ≡ trackStart p t → end ≡ trackStart p t + trackSize p
+    → take (end - start) (drop start image) ≡ trackBytes p t image
+unfolding trackBytes
+track-lent p t image start end es ee = part-lent start end (trackSize p) image (omega arith) ∙ ap (λ (i : ℕ). part i (trackSize p) image) es
+
+-- the 8 bytes at a track's start
+pub first-lent : (p : Params) (t : Track) (image : List ℕ) (start : ℕ) → 1 ≤ p .sectors → start ≡ trackStart p t
+    → take (start + 8 - start) (drop start image) ≡ slotId p 0 (trackBytes p t image)
+unfolding trackBytes slotId
+first-lent p t image start n es =
+    let z : 0 * slotSize p ≡ 0 = zero-mul (slotSize p) in
+    let room : 0 * slotSize p + 8 ≤ trackSize p = omega (arith, z, cell-in (slotSize p) 0 (p .sectors) n) in
+    part-lent start (start + 8) 8 image refl ∙ ap (λ (i : ℕ). part i 8 image) (let e : start ≡ trackStart p t + 0 * slotSize p = omega (arith, z) in e)
+    ∙ sym (part-part (trackStart p t) (trackSize p) (0 * slotSize p) 8 image room)
+
+-- slot k in the track that starts at `start`; `size` is a slot's
+module _ (p : Params) (t : Track) (k start size : ℕ) (h : k < p .sectors) (es : start ≡ trackStart p t) (ez : size ≡ slotSize p) where
+  pub slot-end : start + k * size + size ≤ trackStart p t + trackSize p
+  slot-end = rw ez (omega (arith, es, cell-in (slotSize p) k (p .sectors) h))
+
+  pub slot-lent : (image : List ℕ) → take (start + k * size + size - (start + k * size)) (drop (start + k * size) image) ≡ slotBytes p k (trackBytes p t image)
+  unfolding trackBytes slotBytes
+  slot-lent image =
+      rw (es, ez)
+      (part-lent (trackStart p t + k * slotSize p) (trackStart p t + k * slotSize p + slotSize p) (slotSize p) image refl
+      ∙ sym (part-part (trackStart p t) (trackSize p) (k * slotSize p) (slotSize p) image (cell-in (slotSize p) k (p .sectors) h)))
+
+  -- its data, lent and replaced
+  pub data-lent : (sector lent image : List ℕ) → t .0 < trackCount p → imageLength p ≤ length image → length sector ≡ p .size → lent ≡ sector
+      → putMid (start + k * size + 8) (start + k * size + 8 + p .size - (start + k * size + 8)) image lent ≡ withTrack p t (withData p k sector (trackBytes p t image)) image
+  unfolding trackBytes withTrack withData
+  data-lent sector lent image ht fits ls e =
+      let at : ℕ = trackStart p t + k * slotSize p + 8 in
+      let z : at ≡ trackStart p t + (k * slotSize p + 8) = omega arith in
+      rw (es, ez, e)
+      (splice-lent at (at + p .size) image sector (ap (λ (n : ℕ). at + n) ls)
+      ∙ ap (λ (i : ℕ). splice i sector image) z
+      ∙ sym (splice-splice (trackStart p t) (trackSize p) (k * slotSize p + 8) sector image (omega (arith, ls, cell-in (slotSize p) k (p .sectors) h)) (track-room p t (length image) ht fits)))

@@ -2,3 +2,9 @@ pub mod Ids
 pub mod Images
 pub mod Formats
 pub mod Sounds
+pub mod Finds
+pub mod Checks
+pub mod Pairs
+pub mod Choices
+pub mod Formed
+pub mod SameIds

@@ -103,7 +103,7 @@ module _ (p : Params) (map fill : List ℕ) (first : ℕ) (image₀ : List ℕ) 
       record {
         most = omega arith;
         rest = rw e (ap (λ (n : ℕ). soundFrom p map fill n t image) (sym c) ∙ done .rest);
-        len = ap length e ∙ length-with-track p image (rw (done .len) l) (track t) (formatted p (track t) Sound map fill) h (length-formatted p (track t) Sound map fill lm lf) ∙ done .len
+        len = ap length e ∙ length-with-track p image (rw (done .len) l) (track t) (formatted p (track t) Sound map fill) h (length-formatted p (track t) Sound map fill lm lf) ∙ done .len;
       }
 
   pub remade-all : (image : List ℕ) (t : ℕ) → trackCount p ≤ t → Remade p map fill first image₀ image t → image ≡ soundFrom p map fill (trackCount p - first) first image₀

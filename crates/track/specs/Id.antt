@@ -42,7 +42,7 @@ idIn bytes = record {
   head = getD bytes 3 0;
   sector = getD bytes 4 0;
   flag = getD bytes 5 0;
-  partner = track (getD bytes 6 0 * 256 + getD bytes 7 0)
+  partner = track (getD bytes 6 0 * 256 + getD bytes 7 0);
 }
 
 -- The ID of sector s in track t. All slots of a formatted track carry the same flag and partner.
@@ -53,7 +53,7 @@ idFor p t state s = record {
   head = headOf p t;
   sector = s;
   flag = flagOf state;
-  partner = partnerOf state
+  partner = partnerOf state;
 }
 
 -- The cylinder and head are t's own.

@@ -1,9 +1,14 @@
 // Check Track's comparison of a track's ID bytes.
-use crate::find::{Where, where_is};
+use crate::find::Where;
+use crate::find::where_is;
 use crate::format::with_sector;
-use crate::id::{Id, State, id_for, write_id};
+use crate::id::Id;
+use crate::id::State;
+use crate::id::id_for;
+use crate::id::write_id;
 use base::same_bytes;
-use geometry::params::{Params, Track};
+use geometry::params::Params;
+use geometry::params::Track;
 ghost use mathlib.Core.Path.{_≡_};
 ghost use Prim.Native.Nat.{_≤_, _<_};
 ghost use lib.ListN.{length, take};
@@ -64,7 +69,11 @@ pub fn check_track(image: &[u8], p: Params, t: Track, map: &[u8]) -> u8
             let start = stretch.start;
             let end = stretch.end;
             let id = id_for(p, u, home_state(t, u), 0);
-            if ids_are(&image[start..end], p, id, map) { 0 } else { 0x1A }
+            if ids_are(&image[start..end], p, id, map) {
+                0
+            } else {
+                0x1A
+            }
         }
     }
 }

@@ -1,6 +1,10 @@
 // Finding a sector of a track, in any image.
-use crate::id::{ID_MARK, Id, first_id, is_own};
-use geometry::params::{Params, Track};
+use crate::id::ID_MARK;
+use crate::id::Id;
+use crate::id::first_id;
+use crate::id::is_own;
+use geometry::params::Params;
+use geometry::params::Track;
 ghost use mathlib.Core.Path.{_≡_};
 ghost use mathlib.Core.Bool.{_&&_};
 ghost use Prim.Native.Nat.{_≤_, _<_};
@@ -55,6 +59,7 @@ fn is_taken_by(image: &[u8], p: Params, t: Track, u: Track) -> bool
 fn where_by(t: Track, id: Id, own: bool, taken: bool) -> Where
     ensures { λ r. ⌜ r ≡ whereBy t id «own» «taken» ⌝ }
 {
+    let partner = id.partner;
     if id.mark != ID_MARK {
         return Where::Off(0x12);
     }
@@ -72,7 +77,7 @@ fn where_by(t: Track, id: Id, own: bool, taken: bool) -> Where
     }
     if id.flag == 2 {
         if taken {
-            return Where::On(id.partner);
+            return Where::On(partner);
         }
         return Where::Off(0x1E);
     }
@@ -96,7 +101,11 @@ fn has_sector(slot: &[u8], s: u8) -> bool
     requires { ⌜ 8 ≤ length (now slot) ⌝ }
     ensures { λ r. ⌜ r ≡ (eqb (idIn (now (slot .entry)) .mark) 0xA1 && eqb (idIn (now (slot .entry)) .sector) s) ⌝ }
 {
-    if slot[0] == ID_MARK { slot[4] == s } else { false }
+    if slot[0] == ID_MARK {
+        slot[4] == s
+    } else {
+        false
+    }
 }
 
 // A slot with A1h and sector s, in a track's stretch of the image.

@@ -1,7 +1,12 @@
 // Formatting: slot after slot, each whole.
-use crate::id::{Id, State, id_for, partner_of, write_id};
+use crate::id::Id;
+use crate::id::State;
+use crate::id::id_for;
+use crate::id::partner_of;
+use crate::id::write_id;
 use base::copy_bytes;
-use geometry::params::{Params, Track};
+use geometry::params::Params;
+use geometry::params::Track;
 ghost use mathlib.Core.Path.{_≡_};
 ghost use mathlib.Core.List.{_++_};
 ghost use Prim.Native.Nat.{_+_, _-_, _*_, _≤_, _<_};

@@ -1,5 +1,6 @@
 // A slot's ID bytes, and a track's state.
-use geometry::params::{Params, Track};
+use geometry::params::Params;
+use geometry::params::Track;
 ghost use mathlib.Core.Path.{_≡_};
 ghost use mathlib.Core.List.{_++_};
 ghost use Prim.Native.Nat.{_+_, _*_, _≤_, _<_};

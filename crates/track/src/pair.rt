@@ -1,6 +1,11 @@
 // A track as the format commands see it.
-use crate::id::{ID_MARK, Id, State, first_id, is_own};
-use geometry::params::{Params, Track};
+use crate::id::ID_MARK;
+use crate::id::Id;
+use crate::id::State;
+use crate::id::first_id;
+use crate::id::is_own;
+use geometry::params::Params;
+use geometry::params::Track;
 ghost use mathlib.Core.Path.{_≡_};
 ghost use Prim.Native.Nat.{_<_};
 ghost use Rattle.geometry.specs.Params.{trackCount};

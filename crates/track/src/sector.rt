@@ -1,6 +1,7 @@
 // One sector's data, read and written.
 use base::copy_bytes;
-use geometry::params::{Params, Track};
+use geometry::params::Params;
+use geometry::params::Track;
 ghost use mathlib.Core.Path.{_≡_};
 ghost use Prim.Native.Nat.{_<_};
 ghost use lib.ListN.{length};

@@ -1,0 +1,179 @@
+-- Laws of finding a sector: where the search goes on, the loop over a track's slots, and what is found.
+use mathlib.Core.Path.{_≡_, refl, sym, ap, _∙_}
+use mathlib.Core.Bool.{Bool, true, false, not, _&&_, false≢true}
+use mathlib.Core.Option.{Option, none, some}
+use mathlib.Core.List.{List}
+use Prim.Native.Nat.{ℕ, _+_, _-_, _*_, _≤_, _<_}
+use native.Mathlib.Omega.{arith}
+use native.Mathlib.Nat.{zero-mul, suc-mul}
+use native.Mathlib.Numerals.{add-one}
+use lib.ListN.{take, drop}
+use lib.Dec.{eqb}
+use borrow.Author.Tests.{lt-ltb, le-ltb, ltb-true, eq-eqb, ne-eqb, not-true, not-false}
+use Rattle.base.specs.Pick.{pick}
+use Rattle.base.specs.Part.{part}
+use Rattle.base.specs.First.{firstBelow}
+use Rattle.base.proofs.Parts.{part-lent, cell-in}
+use Rattle.base.proofs.Firsts.{Sought, sought-none, sought-more, sought-all}
+use Rattle.geometry.specs.declared.params.Params.{Params}
+use Rattle.geometry.specs.declared.params.Track.{Track}
+use Rattle.geometry.specs.Params.{trackCount, slotSize, trackSize, trackStart}
+use Rattle.track.specs.declared.id.Id.{Id}
+use Rattle.track.specs.declared.find.Where.{Where}
+use Rattle.track.specs.declared.find.Where.the-variants.{On, Off}
+use Rattle.track.specs.declared.find.Found.{Found}
+use Rattle.track.specs.declared.find.Found.the-variants.{At, Nothing}
+use Rattle.track.specs.declared.find.Sector.the-variants.{Slot, Fault}
+use Rattle.track.specs.Id.{idIn, ownId}
+use Rattle.track.specs.Image.{trackBytes, slotId, firstId}
+use Rattle.track.specs.Find.{takenBy, whereBy, whereOf, holds, slotUsed, foundOf, sectorIn, sectorFrom, sectorFound, MayBeFound, MayBeSector}
+use Rattle.track.proofs.Images.{track-lent}
+
+-- ---- whether a track is taken by another, test by test
+module _ (p : Params) (t u : Track) (id : Id) where
+  pub taken-past : trackCount p ≤ u .0 → false ≡ takenBy p t u id
+  unfolding takenBy
+  taken-past h = simp (le-ltb _ _ h)
+
+  module _ (h : u .0 < trackCount p) where
+    pub taken-unmarked : (id .mark ≡ 0xA1 → ⊥) → false ≡ takenBy p t u id
+    unfolding takenBy
+    taken-unmarked m = simp (lt-ltb _ _ h, ne-eqb _ _ m)
+
+    module _ (m : id .mark ≡ 0xA1) (own : Bool) (eo : own ≡ ownId p u id) where
+      pub taken-other : not own ≡ true → false ≡ takenBy p t u id
+      unfolding takenBy
+      taken-other o = simp (lt-ltb _ _ h, eq-eqb _ _ m, sym eo ∙ not-true own o)
+
+      module _ (o : not own ≡ false) where
+        pub taken-flag : (id .flag ≡ 3 → ⊥) → false ≡ takenBy p t u id
+        unfolding takenBy
+        taken-flag f = simp (lt-ltb _ _ h, eq-eqb _ _ m, sym eo ∙ not-false own o, ne-eqb _ _ f)
+
+        pub taken-partner : id .flag ≡ 3 → eqb (id .partner .0) (t .0) ≡ takenBy p t u id
+        unfolding takenBy
+        taken-partner f = simp (lt-ltb _ _ h, eq-eqb _ _ m, sym eo ∙ not-false own o, eq-eqb _ _ f)
+
+left-true : (a b : Bool) → (a && b) ≡ true → a ≡ true
+left-true true b e = refl
+left-true false b e = absurd (false≢true e)
+
+-- what is taken is a track of the drive
+pub taken-in : (p : Params) (t u : Track) (id : Id) → takenBy p t u id ≡ true → u .0 < trackCount p
+unfolding takenBy
+taken-in p t u id e = ltb-true _ _ (left-true _ _ (left-true _ _ (left-true _ _ (left-true _ _ e))))
+
+-- ---- where the search goes on
+pub where-from : (p : Params) (t : Track) (image : List ℕ) (id : Id) (own taken : Bool) → id ≡ firstId p t image → own ≡ ownId p t id
+    → taken ≡ takenBy p t (id .partner) (firstId p (id .partner) image) → whereBy t id own taken ≡ whereOf p t image
+unfolding whereOf
+where-from p t image id own taken ei eo et = rw (eo, et, ei)
+
+off-on : (code : ℕ) (u : Track) → Off code ≡ On u → ⊥
+off-on code u e = let z : _≡_ {A = ℕ} 0 1 = cc in omega arith
+
+on-same : (t u : Track) → On t ≡ On u → t ≡ u
+on-same t u e = cc
+
+-- the track, where there is one, is below a count
+abbrev Below : ℕ → Where → Type 0
+Below count w = (u : Track) → w ≡ On u → u .0 < count
+
+below-off : (count code : ℕ) → Below count (Off code)
+below-off count code u e = absurd (off-on code u e)
+
+below-on : (count : ℕ) (t : Track) → t .0 < count → Below count (On t)
+below-on count t h u e = let z : t .0 ≡ u .0 = ap (λ (v : Track). v .0) (on-same t u e) in omega arith
+
+below-pick : (count : ℕ) (b : Bool) (x y : Where) → (b ≡ true → Below count x) → Below count y → Below count (pick b x y)
+unfolding pick
+below-pick count true x y hx hy = hx refl
+below-pick count false x y hx hy = hy
+
+below-by : (count : ℕ) (t : Track) (id : Id) (own taken : Bool) → t .0 < count → (taken ≡ true → id .partner .0 < count) → Below count (whereBy t id own taken)
+unfolding whereBy
+below-by count t id own taken h k =
+    below-pick count _ _ _ (λ e. below-off count _)
+    (below-pick count _ _ _ (λ e. below-off count _)
+    (below-pick count _ _ _ (λ e. below-off count _)
+    (below-pick count _ _ _ (λ e. below-off count _)
+    (below-pick count _ _ _ (λ e. below-off count _)
+    (below-pick count _ _ _ (λ e. below-pick count taken _ _ (λ e′. below-on count (id .partner) (k e′)) (below-off count _))
+    (below-on count t h))))))
+
+pub where-in : (p : Params) (t : Track) (image : List ℕ) (w : Where) → w ≡ whereOf p t image → t .0 < trackCount p → (u : Track) → w ≡ On u → u .0 < trackCount p
+unfolding whereOf
+where-in p t image w ew h u e =
+    let id : Id = firstId p t image in
+    below-by (trackCount p) t id _ _ h (λ k. taken-in p t (id .partner) _ k) u (sym ew ∙ e)
+
+-- ---- slots side by side, each of this size: slot k lies at `at`
+pub id-lent : (size at k : ℕ) (bytes : List ℕ) → at ≡ k * size → take (at + 8 - at) (drop at bytes) ≡ part (k * size) 8 bytes
+id-lent size at k bytes e = part-lent at (at + 8) 8 bytes refl ∙ ap (λ (i : ℕ). part i 8 bytes) e
+
+pub slot-end : (w n size at k len : ℕ) → size ≡ w → at ≡ k * size → len ≡ n * w → k < n → at + size ≤ len
+slot-end w n size at k len es e l h = let z : n * size ≡ n * w = ap (λ (i : ℕ). n * i) es in omega (arith, cell-in size k n h)
+
+pub place-more : (size at k : ℕ) → at ≡ k * size → at + size ≡ (k + 1) * size
+place-more size at k e = rw (add-one, suc-mul) (omega arith)
+
+-- ---- the loop: the slots below k do not hold s, and slot k lies at `at`
+abbrev holdsAt : (size s : ℕ) → (bytes : List ℕ) → (k : ℕ) → Bool
+holdsAt size s bytes k = eqb (idIn (part (k * size) 8 bytes) .mark) 0xA1 && eqb (idIn (part (k * size) 8 bytes) .sector) s
+
+pub record Passed (size s : ℕ) (bytes : List ℕ) (n at k : ℕ) : Type 0 where
+  pub place : at ≡ k * size
+  pub sought : Sought (holdsAt size s bytes) n k
+
+pub passed-none : (size s : ℕ) (bytes : List ℕ) (n : ℕ) → Passed size s bytes n 0 0
+passed-none size s bytes n = record { place = sym (zero-mul size); sought = sought-none _ _ }
+
+module _ (size s : ℕ) (bytes : List ℕ) (at k : ℕ) (has : Bool)
+    (e : has ≡ (eqb (idIn (take (at + 8 - at) (drop at bytes)) .mark) 0xA1 && eqb (idIn (take (at + 8 - at) (drop at bytes)) .sector) s)) where
+  held : at ≡ k * size → holdsAt size s bytes k ≡ has
+  held place = rw (← id-lent size at k bytes place) (sym e)
+
+  pub passed-more : (n : ℕ) → Passed size s bytes n at k → k < n → has ≡ false → Passed size s bytes n (at + size) (k + 1)
+  passed-more n w h no-match = record { place = place-more size at k (w .place); sought = sought-more _ _ k (w .sought) h (held (w .place) ∙ no-match) }
+
+  pub passed-hit : (p : Params) → size ≡ slotSize p → Passed size s bytes (p .sectors) at k → k < p .sectors → has ≡ true → MayBeFound p s bytes (At k)
+  unfolding foundOf slotUsed holds slotId pick
+  passed-hit p es w h match-it =
+      let z : holdsAt (slotSize p) s bytes k ≡ true = rw es at (held (w .place) ∙ match-it) in
+      (k, simp (lt-ltb k (p .sectors) h, z))
+
+-- a choice past the last slot leaves the first that holds s, which is none
+pub passed-all : (p : Params) (size s : ℕ) (bytes : List ℕ) (at k : ℕ) → size ≡ slotSize p → Passed size s bytes (p .sectors) at k → p .sectors ≤ k → MayBeFound p s bytes Nothing
+unfolding foundOf slotUsed holds slotId pick
+passed-all p size s bytes at k es w h =
+    let z : firstBelow (holdsAt (slotSize p) s bytes) (p .sectors) ≡ none = rw es at (sought-all _ _ k (w .sought) h) in
+    (p .sectors, simp (le-ltb (p .sectors) (p .sectors) (omega arith), z))
+
+-- ---- what is found
+found-at : (u : Track) (k : ℕ) (o : Option ℕ) → foundOf o ≡ At k → Slot u k ≡ sectorIn u o
+unfolding foundOf sectorIn
+found-at u k none e = absurd (let z : _≡_ {A = ℕ} 0 1 = cc in omega arith)
+found-at u k (some j) e = let z : k ≡ j = cc in rw z
+
+found-nothing : (u : Track) (o : Option ℕ) → foundOf o ≡ Nothing → Fault 0x14 ≡ sectorIn u o
+unfolding foundOf sectorIn
+found-nothing u none e = refl
+found-nothing u (some j) e = absurd (let z : _≡_ {A = ℕ} 0 1 = cc in omega arith)
+
+module _ (p : Params) (t : Track) (s : ℕ) (image : List ℕ) (w : Where) (ew : w ≡ whereOf p t image) where
+  pub sector-off : (code : ℕ) → w ≡ Off code → MayBeSector p t s image (Fault code)
+  unfolding sectorFound sectorFrom
+  sector-off code e = (0, rw (sym ew ∙ e))
+
+  module _ (u : Track) (e : w ≡ On u) (start end : ℕ) (es : start ≡ trackStart p u) (ee : end ≡ trackStart p u + trackSize p) (found : Found)
+      (f : MayBeFound p s (take (end - start) (drop start image)) found) where
+    there : found ≡ foundOf (slotUsed (f .0) p s (trackBytes p u image))
+    there = rw (track-lent p u image start end es ee) at (f .1)
+
+    pub sector-at : (k : ℕ) → found ≡ At k → MayBeSector p t s image (Slot u k)
+    unfolding sectorFound sectorFrom
+    sector-at k ek = (f .0, rw (sym ew ∙ e) (found-at u k _ (sym there ∙ ek)))
+
+    pub sector-nothing : found ≡ Nothing → MayBeSector p t s image (Fault 0x14)
+    unfolding sectorFound sectorFrom
+    sector-nothing en = (f .0, rw (sym ew ∙ e) (found-nothing u _ (sym there ∙ en)))
