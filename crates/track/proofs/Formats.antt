@@ -1,11 +1,10 @@
 -- What a format writes: its length, each slot's ID and data; and what formatting many tracks leaves.
 use mathlib.Core.Path.{_≡_, refl, sym, ap, _∙_}
 use mathlib.Core.List.{List, [], _++_, append-nil, append-assoc}
-use Prim.Native.Nat.{ℕ, zero, suc, _+_, _-_, _*_, _≤_, _<_}
+use Prim.Native.Nat.{ℕ, _+_, _-_, _*_, _≤_, _<_}
 use native.Mathlib.Omega.{arith}
-use native.Mathlib.Decide.{decLt}
-use native.Mathlib.Nat.{zero-mul, suc-mul, add-zero, not-suc-le-zero}
-use native.Mathlib.Numerals.{add-one, sub-one}
+use native.Mathlib.Nat.{zero-mul, suc-mul, add-zero}
+use native.Mathlib.Numerals.{add-one}
 use lib.ListN.{length, take, drop, getD, length-append, length-drop, drop-of-length-le}
 use lib.Seq.{take-at, drop-at, drop-drop, take-all}
 use borrow.Rule.Slice.PartMut.{putMid, post-is, same-len-mid, mid-len}
@@ -13,15 +12,13 @@ use Rattle.base.specs.Part.{part, rows}
 use Rattle.base.proofs.Parts.{length-rows, part-row, cell-in, splice-lent}
 use Rattle.geometry.specs.declared.params.Params.{Params}
 use Rattle.geometry.specs.declared.params.Track.{Track}
-use Rattle.geometry.specs.Params.{trackCount, slotSize, trackSize, imageLength, trackStart}
+use Rattle.geometry.specs.Params.{slotSize, trackSize, trackStart}
 use Rattle.track.specs.declared.id.Id.{Id}
 use Rattle.track.specs.declared.id.State.{State}
-use Rattle.track.specs.declared.id.State.the-variants.{Sound}
 use Rattle.track.specs.Id.{track, idBytes, idFor}
-use Rattle.track.specs.Image.{trackBytes, withTrack, slotId, slotData}
-use Rattle.track.specs.Format.{withSector, slotMade, slotsMade, formatted, soundFrom}
+use Rattle.track.specs.Image.{withTrack, slotId, slotData}
+use Rattle.track.specs.Format.{withSector, slotMade, slotsMade, formatted}
 use Rattle.track.proofs.Ids.{id-length, sector-for}
-use Rattle.track.proofs.Images.{length-with-track, track-same, track-other}
 
 -- ---- slots made
 module _ (id : Id) (map fill : List ℕ) where

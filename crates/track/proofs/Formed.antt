@@ -1,9 +1,9 @@
 -- Tracks whose IDs are those of a format: what finding, the format commands and Check Track see in them.
-use mathlib.Core.Path.{_≡_, refl, sym, ap, _∙_, subst}
-use mathlib.Core.Bool.{Bool, true, false, not, _&&_, true≢false, false≢true}
+use mathlib.Core.Path.{_≡_, refl, sym, ap, _∙_}
+use mathlib.Core.Bool.{Bool, true, false, _&&_, true≢false}
 use mathlib.Core.Option.{Option, none, some}
 use mathlib.Core.List.{List}
-use Prim.Native.Nat.{ℕ, _+_, _*_, _≤_, _<_}
+use Prim.Native.Nat.{ℕ, _≤_, _<_}
 use native.Mathlib.Omega.{arith}
 use native.Mathlib.Decide.{ℕ-discrete}
 use lib.ListN.{length, getD}
@@ -17,17 +17,16 @@ use Rattle.base.proofs.Firsts.{first-some, first-none, every-true, every-at}
 use Rattle.base.proofs.Sames.{same-self, same-eq}
 use Rattle.geometry.specs.declared.params.Params.{Params}
 use Rattle.geometry.specs.declared.params.Track.{Track}
-use Rattle.geometry.specs.Params.{trackCount, trackSize, imageLength}
+use Rattle.geometry.specs.Params.{trackCount, imageLength}
 use Rattle.interleave.specs.Layout.{layoutOf}
 use Rattle.interleave.proofs.Layouts.{layout-length}
 use Rattle.interleave.proofs.Slots.{sectorAt, slotOf, slot-lt, sector-slot, slot-sector, slot-one}
 use Rattle.track.specs.declared.id.Id.{Id}
 use Rattle.track.specs.declared.id.State.{State}
 use Rattle.track.specs.declared.id.State.the-variants.{Sound, Bad, Moved, Taken}
-use Rattle.track.specs.declared.find.Where.{Where}
 use Rattle.track.specs.declared.find.Where.the-variants.{On, Off}
 use Rattle.track.specs.declared.find.Sector.the-variants.{Slot, Fault}
-use Rattle.track.specs.Id.{track, flagOf, partnerOf, idBytes, idIn, idFor, ownId}
+use Rattle.track.specs.Id.{track, flagOf, partnerOf, idBytes, idIn, idFor}
 use Rattle.track.specs.Image.{trackBytes, withTrack, slotId, slotData, firstId}
 use Rattle.track.specs.Format.{withSector, formatted}
 use Rattle.track.specs.Find.{takenBy, whereBy, whereOf, holds, slotUsed, sectorIn, sectorFrom, sectorFound}

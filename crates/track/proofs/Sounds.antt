@@ -1,11 +1,10 @@
 -- Tracks made sound from one on: what becomes of each track, and the loop that does it.
 use mathlib.Core.Path.{_≡_, refl, sym, ap, _∙_}
 use mathlib.Core.List.{List}
-use Prim.Native.Nat.{ℕ, zero, suc, _+_, _-_, _*_, _≤_, _<_}
+use Prim.Native.Nat.{ℕ, zero, suc, _+_, _-_, _≤_, _<_}
 use native.Mathlib.Omega.{arith}
 use native.Mathlib.Decide.{decLt}
-use native.Mathlib.Nat.{add-zero, not-suc-le-zero}
-use native.Mathlib.Numerals.{add-one, sub-one}
+use native.Mathlib.Nat.{add-zero}
 use lib.ListN.{length}
 use Rattle.base.specs.Part.{part}
 use Rattle.geometry.specs.declared.params.Params.{Params}
