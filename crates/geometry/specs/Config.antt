@@ -48,5 +48,8 @@ settingOf c image =
 abbrev pub labelConfig : (image : List ℕ) → List ℕ
 labelConfig image = part 0 10 image
 
+abbrev pub labelRest : List ℕ
+labelRest = 0 ∷ 0 ∷ 0 ∷ 0 ∷ 0 ∷ 0 ∷ []
+
 unfoldable pub labelSetting : (image : List ℕ) → Setting
-labelSetting image = pick (sameBytes (part 10 6 image) (0 ∷ 0 ∷ 0 ∷ 0 ∷ 0 ∷ 0 ∷ [])) (settingOf (labelConfig image) (length image)) Invalid
+labelSetting image = pick (sameBytes (part 10 6 image) labelRest) (settingOf (labelConfig image) (length image)) Invalid

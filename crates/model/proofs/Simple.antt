@@ -1,0 +1,83 @@
+-- The commands that leave the image: Request Sense, the buffer's, Initialize.
+use Prim.Native.Nat.{ℕ, _≤_, _<_}
+use mathlib.Core.Path.{_≡_, refl, sym, subst}
+use mathlib.Core.Bool.{true, true≢false}
+use mathlib.Core.Option.{some}
+use mathlib.Core.List.{List, []}
+use native.Mathlib.Omega.{arith}
+use lib.ListN.{length, take}
+use Rattle.base.specs.Pick.{pick}
+use Rattle.base.specs.Part.{part}
+use Rattle.base.proofs.Parts.{length-part}
+use Rattle.geometry.specs.declared.config.Setting.{Setting}
+use Rattle.geometry.specs.declared.config.Setting.the-variants.{Valid, Invalid}
+use Rattle.geometry.specs.Config.{settingOf}
+use Rattle.model.specs.declared.block.Block.{Block}
+use Rattle.model.specs.declared.record.Drive.{Drive}
+use Rattle.model.specs.declared.record.Controller.{Controller}
+use Rattle.model.specs.Record.{driveAt, withDrive, withBuffer, good, goodOutcome}
+use Rattle.model.specs.Commands.{requestSense, initialized, initializedBy, initialize}
+use Rattle.model.specs.Machine.{Disk, Machine, withDisk, inForce, well, initializeBy}
+use Rattle.model.specs.Machine.{withBuffer as buffering}
+use Rattle.model.specs.Claim.{replyOf}
+use Rattle.model.proofs.Agrees.{Drives, Agrees, Follows}
+use Rattle.model.proofs.Ends.{front, agree-kept, agree-buffer, agree-drive, well-follows, fault-follows}
+use Rattle.model.proofs.Current.{stored-forced}
+
+drive-initialized : (config : List ℕ) (entry : Drive) (image : List ℕ) (u : Disk) → Drives entry image u
+    → Drives (initialized config entry) image (inForce (some config) true u)
+unfolding initialized inForce pick
+drive-initialized config entry image u drive = record {
+  len = drive .len;
+  force = refl;
+  pending = refl;
+  settled = λ e. absurd (true≢false e);
+  stored = stored-forced u image (some config) true (drive .stored);
+  sense = drive .sense;
+}
+
+initialized-sense : (config : List ℕ) (entry : Drive) → initialized config entry .sense ≡ entry .sense
+unfolding initialized
+initialized-sense config entry = refl
+
+module _ (image : ℕ → List ℕ) (b : Block) (area : List ℕ) (c : Controller) (m : Machine) (four : b .drive < 4) (agree : Agrees c image m) where
+  pub sense-follows : Follows image b area (requestSense b c (image (b .drive))) (well b 0 (m .senses (b .drive)) m .0, m)
+  unfolding requestSense good goodOutcome well replyOf
+  sense-follows = rw (agree .senses (b .drive) four) (record {
+    reply = rw (front (m .senses (b .drive)) area);
+    agree = agree-kept (b .drive) c image m agree;
+    len = refl;
+  })
+
+  pub buffer-read : Follows image b area (good b 0 (c .buffer) c (image (b .drive))) (well b 0 (m .buffer) m)
+  buffer-read =
+      subst (λ (bytes : List ℕ). Follows image b area (good b 0 (c .buffer) c (image (b .drive))) (well b 0 bytes m)) (agree .buffer)
+      (well-follows image b area four 0 (c .buffer) c (image (b .drive)) m refl (agree-kept (b .drive) c image m agree))
+
+  pub buffer-written : (given : List ℕ) → 512 ≤ length given
+      → Follows image b area (good b 0 [] (withBuffer (part 0 512 given) c) (image (b .drive))) (well b 0 [] (buffering (take 512 given) m))
+  unfolding part
+  buffer-written given enough =
+      well-follows image b area four 0 [] (withBuffer (take 512 given) c) (image (b .drive)) (buffering (take 512 given) m) refl
+      (agree-kept (b .drive) (withBuffer (take 512 given) c) image (buffering (take 512 given) m)
+      (agree-buffer c image m agree (take 512 given) (take 512 given) refl (length-part 0 512 given (omega arith))))
+
+  initialized-follows : (s : Setting) (config : List ℕ)
+      → Follows image b area (initializedBy s b config c (image (b .drive))) (initializeBy s b config m (m .disks (b .drive)))
+  unfolding initializedBy initializeBy
+  initialized-follows Invalid config = fault-follows image b area c m four agree 0x22 (b .address)
+  initialized-follows (Valid p) config =
+      let entry = initialized config (driveAt c (b .drive)) in
+      let u = inForce (some config) true (m .disks (b .drive)) in
+      well-follows image b area four 0 [] (withDrive (b .drive) entry c) (image (b .drive)) (withDisk (b .drive) u m) refl
+      (agree-drive c image m agree (b .drive) four entry (image (b .drive)) u (initialized-sense config (driveAt c (b .drive)))
+      (drive-initialized config (driveAt c (b .drive)) (image (b .drive)) (m .disks (b .drive)) (agree .drives (b .drive))))
+
+  pub initialize-follows : (given : List ℕ) → Follows image b area (initialize b given c (image (b .drive)))
+      (initializeBy (settingOf (take 10 given) (m .disks (b .drive) .len)) b (take 10 given) m (m .disks (b .drive)))
+  unfolding initialize part
+  initialize-follows given =
+      subst
+      (λ (n : ℕ). Follows image b area (initialize b given c (image (b .drive)))
+      (initializeBy (settingOf (take 10 given) n) b (take 10 given) m (m .disks (b .drive))))
+      (sym (agree .drives (b .drive) .len)) (initialized-follows (settingOf (take 10 given) (length (image (b .drive)))) (take 10 given))

@@ -1,0 +1,11 @@
+pub mod Block
+pub mod Table
+pub mod Checks
+pub mod Sense
+pub mod Calls
+pub mod Record
+pub mod Transfer
+pub mod Commands
+pub mod Engine
+pub mod Machine
+pub mod Claim

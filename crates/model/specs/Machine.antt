@@ -1,0 +1,362 @@
+-- Document 01, 'The plain machine': no image, no slot, no byte of a label.
+--
+-- With the engine it shares what the paper shares: validity and geometry of a configuration, presence of a drive, a block's
+-- fields, the table and the order of checks with the lengths of data, the layout of sense bytes. All else is written out here.
+use Prim.Native.Nat.{ℕ, zero, suc, _+_, _*_}
+use mathlib.Core.Bool.{Bool, true, false, not, _&&_, _||_}
+use mathlib.Core.Option.{Option, none, some}
+use mathlib.Core.List.{List, [], _∷_, _++_}
+use lib.ListN.{length, take, drop, replicate}
+use lib.Dec.{ltb, leb, eqb}
+use Rattle.base.specs.Pick.{pick}
+use Rattle.geometry.specs.declared.params.Lba.{Lba}
+use Rattle.geometry.specs.declared.params.Track.{Track}
+use Rattle.geometry.specs.declared.params.Params.{Params}
+use Rattle.geometry.specs.declared.config.Setting.{Setting}
+use Rattle.geometry.specs.declared.config.Setting.the-variants.{Valid, Invalid}
+use Rattle.geometry.specs.Params.{trackCount, trackOf}
+use Rattle.geometry.specs.Config.{byte, settingOf}
+use Rattle.model.specs.declared.block.Block.{Block}
+use Rattle.model.specs.declared.table.Command.{Command}
+use Rattle.model.specs.declared.table.Command.the-variants.{TestReady, Recalibrate, RequestSense, FormatDrive, CheckTrack, FormatTrack, FormatBadTrack, Read, Write, Seek, AssignAlternate, WriteBuffer, ReadBuffer, Initialize, Unknown}
+use Rattle.model.specs.declared.verdict.Verdict.{Verdict}
+use Rattle.model.specs.declared.verdict.Verdict.the-variants.{Refused, Faulty, Passed}
+use Rattle.model.specs.Block.{blockOf, countOf, fromBuffer}
+use Rattle.model.specs.Table.{entryOf}
+use Rattle.model.specs.Checks.{Test, on, judged, View, presentWith, judge}
+use Rattle.model.specs.Sense.{senseOf}
+use Rattle.model.specs.Calls.{Call, reset, command, Reply, bare}
+
+-- ---- State
+-- Per track sound, bad, moved to a track or taken by one; a track that was never formatted has no state.
+pub data Kind : Type 0 where
+  stateless sound bad : Kind
+  moved taken : Track → Kind
+
+-- Per drive the image length, stored configuration or none, configuration in force or none, pending or not; per track its
+-- state and an interleave; for each address on a sound or moved track D bytes (what it gives elsewhere counts for nothing).
+pub record Disk : Type 0 where
+  pub len : ℕ
+  pub stored : Option (List ℕ)
+  pub force : Option (List ℕ)
+  pub pending : Bool
+  pub kind : Track → Kind
+  pub inter : Track → ℕ
+  pub held : Lba → List ℕ
+
+-- Buffer, four senses, four drives: by their numbers.
+pub record Machine : Type 0 where
+  pub buffer : List ℕ
+  pub senses : ℕ → List ℕ
+  pub disks : ℕ → Disk
+
+-- Fresh, no configuration is stored and the map is empty.
+unfoldable pub freshDisk : (len : ℕ) → Disk
+freshDisk len =
+    record { len = len; stored = none; force = none; pending = false; kind = λ t. stateless; inter = λ t. 0; held = λ a. [] }
+
+-- It is fed the image lengths.
+unfoldable pub freshMachine : (len : ℕ → ℕ) → Machine
+freshMachine len = record { buffer = replicate 512 0; senses = λ d. replicate 4 0; disks = λ d. freshDisk (len d) }
+
+-- ---- Changes of the state
+unfoldable pub changed {ℓ} : {A : Type ℓ} → (ℕ → A) → ℕ → A → ℕ → A
+changed f i x j = pick (eqb j i) x (f j)
+
+unfoldable pub withSense : (drive : ℕ) → List ℕ → Machine → Machine
+withSense drive sense m = record { buffer = m .buffer; senses = changed (m .senses) drive sense; disks = m .disks }
+
+unfoldable pub withBuffer : List ℕ → Machine → Machine
+withBuffer buffer m = record { buffer = buffer; senses = m .senses; disks = m .disks }
+
+unfoldable pub withDisk : (drive : ℕ) → Disk → Machine → Machine
+withDisk drive u m = record { buffer = m .buffer; senses = m .senses; disks = changed (m .disks) drive u }
+
+-- A configuration or none comes into force, pending or not.
+unfoldable pub inForce : Option (List ℕ) → (pending : Bool) → Disk → Disk
+inForce config pending u =
+    record { len = u .len; stored = u .stored; force = config; pending = pending; kind = u .kind; inter = u .inter; held = u .held }
+
+-- Track t has a state and an interleave from now on.
+unfoldable pub becomes : Track → Kind → (inter : ℕ) → Disk → Disk
+becomes t kind inter u = record {
+  len = u .len;
+  stored = u .stored;
+  force = u .force;
+  pending = u .pending;
+  kind = λ v. pick (eqb (v .0) (t .0)) kind (u .kind v);
+  inter = λ v. pick (eqb (v .0) (t .0)) inter (u .inter v);
+  held = u .held;
+}
+
+-- The fill at each address of track t.
+unfoldable pub filled : Params → Track → (fill : List ℕ) → Disk → Disk
+filled p t fill u = record {
+  len = u .len;
+  stored = u .stored;
+  force = u .force;
+  pending = u .pending;
+  kind = u .kind;
+  inter = u .inter;
+  held = λ a. pick (eqb (trackOf p a .0) (t .0)) fill (u .held a);
+}
+
+-- D bytes at one address.
+unfoldable pub storing : Lba → List ℕ → Disk → Disk
+storing at sector u = record {
+  len = u .len;
+  stored = u .stored;
+  force = u .force;
+  pending = u .pending;
+  kind = u .kind;
+  inter = u .inter;
+  held = λ a. pick (eqb (a .0) (at .0)) sector (u .held a);
+}
+
+-- ---- How a call ends: a reply, and the machine after it
+unfoldable pub failing : Block → (code : ℕ) → Lba → (sectors : ℕ) → (handed : List ℕ) → Machine → Reply × Machine
+failing b code at sectors handed m = (
+  record { number = 0; status = 2 + 32 * b .drive; message = 0; sectors = sectors; bytes = length handed; handed = handed },
+  withSense (b .drive) (senseOf code (b .drive) at) m,
+)
+
+unfoldable pub well : Block → (sectors : ℕ) → (handed : List ℕ) → Machine → Reply × Machine
+well b sectors handed m = (
+  record { number = 0; status = 32 * b .drive; message = 0; sectors = sectors; bytes = length handed; handed = handed },
+  withSense (b .drive) (senseOf 0 (b .drive) (record { 0 = 0 })) m,
+)
+
+unfoldable pub providing : Verdict → Block → Machine → Reply × Machine → Reply × Machine
+providing (Refused number) b m after = (bare number, m)
+providing (Faulty code at) b m after = failing b code at 0 [] m
+providing Passed b m after = after
+
+-- ---- Own checks read the track states
+unfoldable pub isBad : Kind → Bool
+isBad stateless = false
+isBad sound = false
+isBad bad = true
+isBad (moved u) = false
+isBad (taken u) = false
+
+unfoldable pub isMoved : Kind → Bool
+isMoved stateless = false
+isMoved sound = false
+isMoved bad = false
+isMoved (moved u) = true
+isMoved (taken u) = false
+
+unfoldable pub isTaken : Kind → Bool
+isTaken stateless = false
+isTaken sound = false
+isTaken bad = false
+isTaken (moved u) = false
+isTaken (taken u) = true
+
+-- Read, Write and Check Track give 19h on a bad track and 1Ch on a taken one.
+unfoldable pub denied : Kind → Lba → List Test
+denied kind a = on (isBad kind) 0x19 a ∷ on (isTaken kind) 0x1C a ∷ []
+
+-- Format Track and Format Bad Track. Moved: 1Dh. Taken: 1Ch.
+unfoldable pub paired : Kind → Lba → List Test
+paired kind a = on (isMoved kind) 0x1D a ∷ on (isTaken kind) 0x1C a ∷ []
+
+-- Format Drive: exactly one of a moved or taken track and its partner is below s.
+unfoldable pub parted : (s t u : ℕ) → Bool
+parted s t u = (ltb t s && leb s u) || (ltb u s && leb s t)
+
+unfoldable pub partedBy : (s t : ℕ) → Kind → Bool
+partedBy s t stateless = false
+partedBy s t sound = false
+partedBy s t bad = false
+partedBy s t (moved u) = parted s t (u .0)
+partedBy s t (taken u) = parted s t (u .0)
+
+-- Some of the first n tracks is such a one.
+unfoldable pub someParted : (Track → Kind) → (s n : ℕ) → Bool
+someParted kind s zero = false
+someParted kind s (suc t) = partedBy s t (kind (record { 0 = t })) || someParted kind s t
+
+-- The alternate's address: three bytes, high byte first.
+unfoldable pub addressGiven : (given : List ℕ) → Lba
+addressGiven given = record { 0 = byte given 0 * 65536 + byte given 1 * 256 + byte given 2 }
+
+-- Assign Alternate of track A at address a to track B at address b: first byte above 1Fh, 22h; B out of range, 21h; A moved,
+-- 1Dh; A taken, 1Ch; B = A, 22h; B taken, 1Dh; B moved or bad, 1Fh.
+unfoldable pub unassignable : (Track → Kind) → Params → (first : ℕ) → (a b : Lba) → List Test
+unassignable kind p first a b =
+    on (leb 0x20 first) 0x22 a
+    ∷ on (leb (trackCount p * p .sectors) (b .0)) 0x21 b
+    ∷ on (isMoved (kind (trackOf p a))) 0x1D a
+    ∷ on (isTaken (kind (trackOf p a))) 0x1C a
+    ∷ on (eqb (trackOf p a .0) (trackOf p b .0)) 0x22 a
+    ∷ on (isTaken (kind (trackOf p b))) 0x1D b
+    ∷ on (isMoved (kind (trackOf p b)) || isBad (kind (trackOf p b))) 0x1F b
+    ∷ []
+
+-- ---- Read and Write: the sectors done, how it ended, the disk after it
+pub record Passage : Type 0 where
+  pub sectors : List (List ℕ)
+  pub end : Verdict
+  pub disk : Disk
+
+unfoldable pub finished : Verdict → Disk → Passage
+finished end u = record { sectors = []; end = end; disk = u }
+
+unfoldable pub withFirst : List ℕ → Passage → Passage
+withFirst sector x = record { sectors = sector ∷ x .sectors; end = x .end; disk = x .disk }
+
+-- A sector that is denied ends it; else it goes on.
+unfoldable pub passing : Verdict → Disk → Passage → Passage
+passing (Refused number) u rest = finished (Refused number) u
+passing (Faulty code at) u rest = finished (Faulty code at) u
+passing Passed u rest = rest
+
+-- n sectors from address a on. On a track that is neither bad nor taken Read and Write use the map's bytes.
+unfoldable pub readFrom : Params → (n a : ℕ) → Disk → Passage
+readFrom p zero a u = finished Passed u
+readFrom p (suc n) a u =
+    passing (judged (denied (u .kind (trackOf p (record { 0 = a }))) (record { 0 = a })) Passed) u
+    (withFirst (u .held (record { 0 = a })) (readFrom p n (suc a) u))
+
+unfoldable pub writeFrom : Params → (n a : ℕ) → (given : List ℕ) → Disk → Passage
+writeFrom p zero a given u = finished Passed u
+writeFrom p (suc n) a given u =
+    passing (judged (denied (u .kind (trackOf p (record { 0 = a }))) (record { 0 = a })) Passed) u
+    (withFirst (take (p .size) given)
+    (writeFrom p n (suc a) (drop (p .size) given) (storing (record { 0 = a }) (take (p .size) given) u)))
+
+unfoldable pub inARow : List (List ℕ) → List ℕ
+inARow [] = []
+inARow (x ∷ xs) = x ++ inARow xs
+
+-- Each sector read or written is left in the buffer's first D bytes.
+unfoldable pub leaving : List (List ℕ) → (buffer : List ℕ) → List ℕ
+leaving [] buffer = buffer
+leaving (x ∷ xs) buffer = leaving xs (x ++ drop (length x) buffer)
+
+-- n sectors done, `handed` handed over; the machine before and after.
+unfoldable pub transferBy : Verdict → Block → (n : ℕ) → (handed : List ℕ) → (before after : Machine) → Reply × Machine
+transferBy (Refused number) b n handed before after = (bare number, before)
+transferBy (Faulty code at) b n handed before after = failing b code at n handed after
+transferBy Passed b n handed before after = well b n handed after
+
+unfoldable pub transfer : Block → Passage → (handed : List ℕ) → Machine → Reply × Machine
+transfer b x handed m =
+    transferBy (x .end) b (length (x .sectors)) handed m
+    (withDisk (b .drive) (x .disk) (withBuffer (leaving (x .sectors) (m .buffer)) m))
+
+-- ---- Formats: the fill is 6Ch, or with control bit 5 the buffer's first D bytes
+unfoldable pub plain : Params → List ℕ
+plain p = replicate (p .size) 0x6C
+
+unfoldable pub filling : Block → Params → Machine → List ℕ
+filling b p m = pick (fromBuffer b) (take (p .size) (m .buffer)) (plain p)
+
+-- Format Drive: tracks from s to the last are sound, with their interleave and fill; the states of tracks past the last are
+-- forgotten; the configuration in force is stored; pending ends.
+unfoldable pub fromOn : Params → (s t : ℕ) → Bool
+fromOn p s t = leb s t && ltb t (trackCount p)
+
+unfoldable pub reformatted : Params → (s inter : ℕ) → (fill : List ℕ) → Disk → Disk
+reformatted p s inter fill u = record {
+  len = u .len;
+  stored = u .force;
+  force = u .force;
+  pending = false;
+  kind = λ t. pick (ltb (t .0) (trackCount p)) (pick (leb s (t .0)) sound (u .kind t)) stateless;
+  inter = λ t. pick (fromOn p s (t .0)) inter (u .inter t);
+  held = λ a. pick (fromOn p s (trackOf p a .0)) fill (u .held a);
+}
+
+-- ---- A command whose checks have passed, up to its own, on a drive with parameters p in force
+unfoldable pub formatDrive : Block → Params → Machine → Disk → Reply × Machine
+formatDrive b p m u =
+    providing (judged (on (someParted (u .kind) (trackOf p (b .address) .0) (trackCount p)) 0x1D (b .address) ∷ []) Passed) b m
+    (well b 0 [] (withDisk (b .drive) (reformatted p (trackOf p (b .address) .0) (b .extra) (filling b p m) u) m))
+
+-- Check Track gives 1Ah exactly when its interleave is not the track's.
+unfoldable pub checkTrack : Block → Params → Machine → Disk → Reply × Machine
+checkTrack b p m u =
+    providing
+    (judged
+    (denied (u .kind (trackOf p (b .address))) (b .address) ++ (on (not (eqb (b .extra) (u .inter (trackOf p (b .address))))) 0x1A (b .address) ∷ []))
+    Passed)
+    b m (well b 0 [] m)
+
+unfoldable pub formatTrack : Block → Params → Machine → Disk → Reply × Machine
+formatTrack b p m u =
+    providing (judged (paired (u .kind (trackOf p (b .address))) (b .address)) Passed) b m
+    (well b 0 []
+    (withDisk (b .drive) (filled p (trackOf p (b .address)) (filling b p m) (becomes (trackOf p (b .address)) sound (b .extra) u)) m))
+
+unfoldable pub formatBadTrack : Block → Params → Machine → Disk → Reply × Machine
+formatBadTrack b p m u =
+    providing (judged (paired (u .kind (trackOf p (b .address))) (b .address)) Passed) b m
+    (well b 0 [] (withDisk (b .drive) (becomes (trackOf p (b .address)) bad (b .extra) u) m))
+
+unfoldable pub read : Block → Params → Machine → Disk → Reply × Machine
+read b p m u = transfer b (readFrom p (countOf b) (b .address .0) u) (inARow (readFrom p (countOf b) (b .address .0) u .sectors)) m
+
+unfoldable pub write : Block → Params → (given : List ℕ) → Machine → Disk → Reply × Machine
+write b p given m u = transfer b (writeFrom p (countOf b) (b .address .0) given u) [] m
+
+-- An assignment sets both tracks' states and interleaves, and B's fill at each address of A, which it makes moved.
+unfoldable pub assignTo : Params → (A B : Track) → (inter : ℕ) → (fill : List ℕ) → Disk → Disk
+assignTo p A B inter fill u = filled p A fill (becomes B (taken A) inter (becomes A (moved B) inter u))
+
+unfoldable pub assignAlternate : Block → Params → (given : List ℕ) → Machine → Disk → Reply × Machine
+assignAlternate b p given m u =
+    providing (judged (unassignable (u .kind) p (byte given 0) (b .address) (addressGiven given)) Passed) b m
+    (well b 0 []
+    (withDisk (b .drive) (assignTo p (trackOf p (b .address)) (trackOf p (addressGiven given)) (b .extra) (filling b p m) u) m))
+
+-- Initialize: not valid, 22h; else in force, pending.
+unfoldable pub initializeBy : Setting → Block → (config : List ℕ) → Machine → Disk → Reply × Machine
+initializeBy Invalid b config m u = failing b 0x22 (b .address) 0 [] m
+initializeBy (Valid p) b config m u = well b 0 [] (withDisk (b .drive) (inForce (some config) true u) m)
+
+-- ---- The commands
+unfoldable pub withParameters : Setting → Block → Machine → (Params → Reply × Machine) → Reply × Machine
+withParameters Invalid b m run = failing b 0x0A (b .address) 0 [] m
+withParameters (Valid p) b m run = run p
+
+unfoldable pub carried : Block → Setting → (given : List ℕ) → Machine → Disk → Command → Reply × Machine
+carried b setting given m u TestReady = well b 0 [] m
+carried b setting given m u Recalibrate = well b 0 [] m
+carried b setting given m u RequestSense = (well b 0 (m .senses (b .drive)) m .0, m)
+carried b setting given m u FormatDrive = withParameters setting b m (λ p. formatDrive b p m u)
+carried b setting given m u CheckTrack = withParameters setting b m (λ p. checkTrack b p m u)
+carried b setting given m u FormatTrack = withParameters setting b m (λ p. formatTrack b p m u)
+carried b setting given m u FormatBadTrack = withParameters setting b m (λ p. formatBadTrack b p m u)
+carried b setting given m u Read = withParameters setting b m (λ p. read b p m u)
+carried b setting given m u Write = withParameters setting b m (λ p. write b p given m u)
+carried b setting given m u Seek = well b 0 [] m
+carried b setting given m u AssignAlternate = withParameters setting b m (λ p. assignAlternate b p given m u)
+carried b setting given m u WriteBuffer = well b 0 [] (withBuffer (take 512 given) m)
+carried b setting given m u ReadBuffer = well b 0 (m .buffer) m
+carried b setting given m u Initialize = initializeBy (settingOf (take 10 given) (u .len)) b (take 10 given) m u
+carried b setting given m u Unknown = failing b 0x20 (b .address) 0 [] m
+
+-- ---- The order of checks, then the command
+unfoldable pub settingWith : Option (List ℕ) → (len : ℕ) → Setting
+settingWith none len = Invalid
+settingWith (some config) len = settingOf config len
+
+unfoldable pub seen : Disk → View
+seen u = record { present = presentWith (u .len); setting = settingWith (u .force) (u .len); pending = u .pending }
+
+unfoldable pub ordered : Block → (given : List ℕ) → (area : ℕ) → Machine → Disk → Reply × Machine
+ordered b given area m u =
+    providing (judge b (seen u) (length given) area) b m
+    (carried b (seen u .setting) given m u (entryOf (b .opcode) .command))
+
+-- ---- Reset drops pending and returns to the stored configuration, map unchanged; buffer and senses are zero.
+unfoldable pub restored : Disk → Disk
+restored u = inForce (u .stored) false u
+
+-- Fed a Reset, or a command's block, given data and data area length.
+unfoldable pub step : Machine → Call → Reply × Machine
+step m reset = (bare 0, record { buffer = replicate 512 0; senses = λ d. replicate 4 0; disks = λ d. restored (m .disks d) })
+step m (command block given area) =
+    pick (eqb (length block) 6) (ordered (blockOf block) given area m (m .disks (blockOf block .drive))) (bare 1, m)
