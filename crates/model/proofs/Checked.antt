@@ -79,6 +79,11 @@ unfolding pick
 not-refused false number after e = refl
 not-refused true number after e = absurd (let z : _≡_ {A = ℕ} 0 1 = cc in omega arith)
 
+past-refused : (short : Bool) (number : ℕ) (after : Verdict) → pick short (Refused number) after ≡ Passed → after ≡ Passed
+unfolding pick
+past-refused false number after e = e
+past-refused true number after e = absurd (let z : _≡_ {A = ℕ} 0 1 = cc in omega arith)
+
 and-off : (a b : Bool) → a ≡ true → (a && b) ≡ false → b ≡ false
 and-off true b e h = h
 and-off false b e h = absurd (false≢true e)
@@ -98,6 +103,10 @@ module _ (b : Block) (v : View) (given area : ℕ) (passed : judge b v given are
   pub given-enough : bytesOf (entryOf (b .opcode) .takes) b (v .setting) ≤ given
   unfolding judge lengthsWith
   given-enough = ltb-false _ _ (not-refused _ _ _ (passed-all _ _ passed))
+
+  pub area-enough : bytesOf (entryOf (b .opcode) .gives) b (v .setting) ≤ area
+  unfolding judge lengthsWith
+  area-enough = ltb-false _ _ (not-refused _ _ _ (past-refused _ _ _ (passed-all _ _ passed)))
 
   pub cleared : (p : Params) → v .setting ≡ Valid p → Cleared (entryOf (b .opcode)) b p (v .pending) given
   unfolding judge tests testsWith

@@ -1,0 +1,86 @@
+-- How Format Drive, Format Track and Format Bad Track end.
+use mathlib.Core.Path.{_≡_, sym, ap, _∙_}
+use mathlib.Core.Bool.{Bool, true, false}
+use mathlib.Core.List.{List}
+use Prim.Native.Nat.{ℕ, _-_}
+use lib.ListN.{take}
+use Rattle.base.specs.Pick.{pick}
+use Rattle.base.specs.Part.{part}
+use Rattle.geometry.specs.declared.params.Params.{Params}
+use Rattle.geometry.specs.declared.params.Track.{Track}
+use Rattle.geometry.specs.Params.{trackOf}
+use Rattle.track.specs.declared.id.State.{State}
+use Rattle.track.specs.Pair.{stateOf, pairSplit}
+use Rattle.model.specs.declared.block.Block.{Block}
+use Rattle.model.specs.declared.record.Drive.{Drive}
+use Rattle.model.specs.declared.record.Controller.{Controller}
+use Rattle.model.specs.declared.record.Outcome.{Outcome}
+use Rattle.model.specs.Block.{fromBuffer}
+use Rattle.model.specs.Record.{driveAt, withDrive, failedOutcome, goodOutcome}
+use Rattle.model.specs.Commands.{isMoved, isTaken, plainFill, fillOf, madeAt, driveFormatted, settled, formatDrive, aloneTests, formatTrack}
+use Rattle.control.specs.Leaves.{silent}
+use Rattle.commands.proofs.Endings.{judged-hit, judged-on, judged-none, ends-faulty, ends-well}
+use Rattle.commands.proofs.Makings.{fill-lent}
+
+-- a drive no longer pending
+pub settled-by : (c other : Controller) (drive : ℕ) (entry : Drive) → entry ≡ driveAt c drive
+    → other ≡ withDrive drive (record { sense = entry .sense; config = entry .config; known = entry .known; pending = false }) c
+    → other ≡ withDrive drive (settled (driveAt c drive)) c
+unfolding settled
+settled-by c other drive entry ee eo = rw (← ee) eo
+
+-- the fill as a call gives it: the first D bytes of 512
+pub fill-is : (b : Block) (p : Params) (c : Controller) (fill : List ℕ)
+    → part 0 (p .size) fill ≡ pick (fromBuffer b) (part 0 (p .size) (c .buffer)) (plainFill p) → take (p .size - 0) fill ≡ fillOf b p c
+unfolding fillOf
+fill-is b p c fill e = fill-lent (p .size) fill ∙ e
+
+module _ (b : Block) (p : Params) (c : Controller) (image : List ℕ) (outcome : Outcome) (t : Track) (et : t ≡ trackOf p (b .address)) where
+  -- ---- Format Drive
+  module _ (split : Bool) (es : split ≡ pairSplit p t image) where
+    is-split : pairSplit p (trackOf p (b .address)) image ≡ split
+    is-split = sym (es ∙ ap (λ (u : Track). pairSplit p u image) et)
+
+    pub drive-fails : split ≡ true → outcome ≡ failedOutcome (b .drive) 0x1D (b .address) 0 0 c → silent outcome image ≡ formatDrive b p c image
+    unfolding formatDrive
+    drive-fails h eo = ends-faulty b c image _ outcome _ 0x1D (b .address) (judged-hit _ _ _ _ _ (is-split ∙ h)) eo
+
+    pub drive-well : (other : Controller) (entry : Drive) (fill left : List ℕ) → split ≡ false
+        → part 0 (p .size) fill ≡ pick (fromBuffer b) (part 0 (p .size) (c .buffer)) (plainFill p) → entry ≡ driveAt c (b .drive)
+        → left ≡ driveFormatted b p (entry .config) (take (p .size - 0) fill) image → other ≡ withDrive (b .drive) (settled (driveAt c (b .drive))) c
+        → outcome ≡ goodOutcome (b .drive) 0 0 other → silent outcome left ≡ formatDrive b p c image
+    unfolding formatDrive
+    drive-well other entry fill left h ef ee el ec eo =
+        ends-well b c image _ outcome _ _ left (judged-on _ _ _ _ _ (is-split ∙ h) ∙ judged-none _)
+        (eo ∙ ap (goodOutcome (b .drive) 0 0) ec) (el ∙ rw (ee, fill-is b p c fill ef))
+
+  -- ---- Format Track and Format Bad Track
+  module _ (state : State) (fill : List ℕ) (old : State) (es : old ≡ stateOf p t image) (moved : Bool) (em : moved ≡ isMoved old) where
+    is-old : old ≡ stateOf p (trackOf p (b .address)) image
+    is-old = es ∙ ap (λ (u : Track). stateOf p u image) et
+
+    is-moved : isMoved (stateOf p (trackOf p (b .address)) image) ≡ moved
+    is-moved = sym (em ∙ ap isMoved is-old)
+
+    pub track-moved : moved ≡ true → outcome ≡ failedOutcome (b .drive) 0x1D (b .address) 0 0 c
+        → silent outcome image ≡ formatTrack b p state fill c image
+    unfolding formatTrack aloneTests
+    track-moved h eo = ends-faulty b c image _ outcome _ 0x1D (b .address) (judged-hit _ _ _ _ _ (is-moved ∙ h)) eo
+
+    module _ (h : moved ≡ false) (taken : Bool) (ek : taken ≡ isTaken old) where
+      is-taken : isTaken (stateOf p (trackOf p (b .address)) image) ≡ taken
+      is-taken = sym (ek ∙ ap isTaken is-old)
+
+      pub track-taken : taken ≡ true → outcome ≡ failedOutcome (b .drive) 0x1C (b .address) 0 0 c
+          → silent outcome image ≡ formatTrack b p state fill c image
+      unfolding formatTrack aloneTests
+      track-taken k eo =
+          ends-faulty b c image _ outcome _ 0x1C (b .address)
+          (judged-on _ _ _ _ _ (is-moved ∙ h) ∙ judged-hit _ _ _ _ _ (is-taken ∙ k)) eo
+
+      pub track-well : (lent left : List ℕ) → taken ≡ false → lent ≡ fill → left ≡ madeAt b p t state lent image
+          → outcome ≡ goodOutcome (b .drive) 0 0 c → silent outcome left ≡ formatTrack b p state fill c image
+      unfolding formatTrack aloneTests
+      track-well lent left k ef el eo =
+          ends-well b c image _ outcome _ _ left
+          (judged-on _ _ _ _ _ (is-moved ∙ h) ∙ judged-on _ _ _ _ _ (is-taken ∙ k) ∙ judged-none _) eo (el ∙ rw (et, ef))

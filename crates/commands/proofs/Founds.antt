@@ -1,0 +1,133 @@
+-- Where a sector that is found lies, and what codes say that it is not found.
+use mathlib.Core.Path.{_≡_, refl, sym, ap, _∙_}
+use mathlib.Core.Bool.{Bool, true, false}
+use mathlib.Core.Option.{Option, none, some}
+use mathlib.Core.List.{List, [], _∷_}
+use Prim.Native.Nat.{ℕ, _*_, _<_}
+use native.Mathlib.Omega.{arith}
+use native.Mathlib.Nat.{div-lt-iff-lt-mul}
+use lib.ListN.{getD}
+use Rattle.base.specs.Pick.{pick}
+use Rattle.geometry.specs.declared.params.Params.{Params}
+use Rattle.geometry.specs.declared.params.Lba.{Lba}
+use Rattle.geometry.specs.declared.params.Track.{Track}
+use Rattle.geometry.specs.Params.{Within, trackCount, trackOf, sectorOf}
+use Rattle.track.specs.declared.id.Id.{Id}
+use Rattle.track.specs.declared.find.Where.{Where}
+use Rattle.track.specs.declared.find.Where.the-variants.{On, Off}
+use Rattle.track.specs.declared.find.Sector.{Sector}
+use Rattle.track.specs.declared.find.Sector.the-variants.{Slot, Fault}
+use Rattle.track.specs.Image.{trackBytes}
+use Rattle.track.specs.Find.{whereBy, whereOf, slotUsed, sectorIn, sectorFrom, sectorFound, MayBeSector}
+use Rattle.track.proofs.Finds.{where-in}
+use Rattle.track.proofs.Choices.{only-used}
+use Rattle.model.specs.Transfer.{found}
+
+-- ---- sectors told apart
+slot-fault : (u : Track) (k code : ℕ) → Slot u k ≡ Fault code → ⊥
+slot-fault u k code e = let z : _≡_ {A = ℕ} 0 1 = cc in omega arith
+
+slot-track : (u v : Track) (k j : ℕ) → Slot u k ≡ Slot v j → u ≡ v
+slot-track u v k j e = cc
+
+slot-number : (u v : Track) (k j : ℕ) → Slot u k ≡ Slot v j → k ≡ j
+slot-number u v k j e = cc
+
+fault-code : (c d : ℕ) → Fault c ≡ Fault d → c ≡ d
+fault-code c d e = cc
+
+-- ---- a slot of a track of the drive
+module _ (choice : ℕ) (p : Params) (s : ℕ) (image : List ℕ) (u : Track) (k : ℕ) where
+  in-slot : (v : Track) (o : Option ℕ) → sectorIn v o ≡ Slot u k → (v ≡ u) × (o ≡ some k)
+  unfolding sectorIn
+  in-slot v none e = absurd (slot-fault u k _ (sym e))
+  in-slot v (some j) e = (slot-track v u j k e, ap some (slot-number v u j k e))
+
+  from-slot : (w : Where) → sectorFrom choice p s image w ≡ Slot u k → (w ≡ On u) × (k < p .sectors)
+  unfolding sectorFrom
+  from-slot (Off code) e = absurd (slot-fault u k code (sym e))
+  from-slot (On v) e =
+      let r = in-slot v (slotUsed choice p s (trackBytes p v image)) e in
+      (ap On (r .0), only-used p s (trackBytes p v image) choice k (r .1) .0)
+
+  pub slot-in : (t : Track) → t .0 < trackCount p → sectorFound choice p t s image ≡ Slot u k → (u .0 < trackCount p) × (k < p .sectors)
+  unfolding sectorFound
+  slot-in t h e = let r = from-slot (whereOf p t image) e in (where-in p t image (whereOf p t image) refl h u (r .0), r .1)
+
+-- ---- a code that is not 0, and below 80h
+abbrev pub Code : ℕ → Type 0
+Code c = (0 < c) × (c < 0x80)
+
+abbrev Coded : Where → Type 0
+Coded w = (c : ℕ) → w ≡ Off c → Code c
+
+on-off : (u : Track) (c : ℕ) → On u ≡ Off c → ⊥
+on-off u c e = let z : _≡_ {A = ℕ} 0 1 = cc in omega arith
+
+off-same : (c d : ℕ) → Off c ≡ Off d → c ≡ d
+off-same c d e = cc
+
+coded-off : (d : ℕ) → Code d → Coded (Off d)
+coded-off d h c e = let z : d ≡ c = off-same d c e in (omega arith, omega arith)
+
+coded-on : (u : Track) → Coded (On u)
+coded-on u c e = absurd (on-off u c e)
+
+coded-pick : (b : Bool) (x y : Where) → Coded x → Coded y → Coded (pick b x y)
+unfolding pick
+coded-pick true x y hx hy = hx
+coded-pick false x y hx hy = hy
+
+coded-by : (t : Track) (id : Id) (own taken : Bool) → Coded (whereBy t id own taken)
+unfolding whereBy
+coded-by t id own taken =
+    coded-pick _ _ _ (coded-off _ (omega arith, omega arith))
+    (coded-pick _ _ _ (coded-off _ (omega arith, omega arith))
+    (coded-pick _ _ _ (coded-off _ (omega arith, omega arith))
+    (coded-pick _ _ _ (coded-off _ (omega arith, omega arith))
+    (coded-pick _ _ _ (coded-off _ (omega arith, omega arith))
+    (coded-pick _ _ _ (coded-pick _ _ _ (coded-on _) (coded-off _ (omega arith, omega arith)))
+    (coded-on t))))))
+
+in-fault : (u : Track) (o : Option ℕ) (c : ℕ) → sectorIn u o ≡ Fault c → Code c
+unfolding sectorIn
+in-fault u none c e = let z : 0x14 ≡ c = fault-code 0x14 c e in (omega arith, omega arith)
+in-fault u (some j) c e = absurd (slot-fault u j c e)
+
+module _ (choice : ℕ) (p : Params) (t : Track) (s : ℕ) (image : List ℕ) where
+  from-fault : (w : Where) → Coded w → (c : ℕ) → sectorFrom choice p s image w ≡ Fault c → Code c
+  unfolding sectorFrom
+  from-fault (Off d) h c e = h c (ap Off (fault-code d c e))
+  from-fault (On u) h c e = in-fault u (slotUsed choice p s (trackBytes p u image)) c e
+
+  pub fault-in : (c : ℕ) → sectorFound choice p t s image ≡ Fault c → Code c
+  unfolding sectorFound whereOf
+  fault-in c e = from-fault (whereOf p t image) (coded-by t _ _ _) c e
+
+-- ---- by an address
+-- the track of an address of the drive
+pub track-below : (p : Params) (a : Lba) (t : Track) → Within p → a .0 < trackCount p * p .sectors → t ≡ trackOf p a → t .0 < trackCount p
+track-below p a t w h e =
+    let some-sectors : 0 < p .sectors = omega (arith, w .sectors-some) in
+    rw e (div-lt-iff-lt-mul some-sectors .1 h)
+
+module _ (choices : List ℕ) (p : Params) (a : ℕ) (image : List ℕ) where
+  pub found-slot : (u : Track) (k : ℕ) → Within p → a < trackCount p * p .sectors → found choices p a image ≡ Slot u k
+      → (u .0 < trackCount p) × (k < p .sectors)
+  unfolding found
+  found-slot u k w h e = slot-in _ p _ image u k _ (track-below p (record { 0 = a }) _ w h refl) e
+
+  pub found-fault : (c : ℕ) → found choices p a image ≡ Fault c → Code c
+  unfolding found
+  found-fault c e = fault-in _ p _ _ image c e
+
+-- what finding answers is one of the choices
+pub found-by : (p : Params) (a : Lba) (image : List ℕ) (t : Track) (s : ℕ) (r : Sector) → t ≡ trackOf p a → s ≡ sectorOf p a
+    → MayBeSector p t s image r → (choices : List ℕ) × (r ≡ found choices p (a .0) image)
+unfolding found
+found-by p a image t s r et es m = (m .0 ∷ [], m .1 ∙ rw (et, es))
+
+-- the first choice is the one that is taken
+pub found-first : (choices rest : List ℕ) (p : Params) (a : ℕ) (image : List ℕ) → found choices p a image ≡ found (getD choices 0 0 ∷ rest) p a image
+unfolding found
+found-first choices rest p a image = refl

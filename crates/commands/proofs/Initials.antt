@@ -1,0 +1,31 @@
+-- What Initialize leaves, by what its configuration gives.
+use mathlib.Core.Path.{_≡_}
+use mathlib.Core.Bool.{true}
+use mathlib.Core.List.{List}
+use Prim.Native.Nat.{ℕ}
+use lib.ListN.{length}
+use Rattle.base.specs.Part.{part}
+use Rattle.geometry.specs.declared.params.Params.{Params}
+use Rattle.geometry.specs.declared.config.Setting.{Setting}
+use Rattle.geometry.specs.declared.config.Setting.the-variants.{Valid, Invalid}
+use Rattle.geometry.specs.Config.{settingOf}
+use Rattle.model.specs.declared.block.Block.{Block}
+use Rattle.model.specs.declared.record.Drive.{Drive}
+use Rattle.model.specs.declared.record.Controller.{Controller}
+use Rattle.model.specs.declared.record.Outcome.{Outcome}
+use Rattle.model.specs.Record.{driveAt, withDrive, failedOutcome, goodOutcome, failed, good}
+use Rattle.model.specs.Commands.{initialized, initializedBy, initialize}
+use Rattle.control.specs.Leaves.{silent}
+
+module _ (b : Block) (given : List ℕ) (c : Controller) (image config : List ℕ) (setting : Setting) (outcome : Outcome)
+    (ten : config ≡ part 0 10 given) (is : setting ≡ settingOf config (length image)) where
+  pub initialize-invalid : setting ≡ Invalid → outcome ≡ failedOutcome (b .drive) 0x22 (b .address) 0 0 c
+      → silent outcome image ≡ initialize b given c image
+  unfolding initialize initializedBy failed
+  initialize-invalid e o = rw (o, ← ten, ← is, e)
+
+  pub initialize-valid : (p : Params) → setting ≡ Valid p → (entry : Drive) → entry ≡ driveAt c (b .drive) → (other : Controller)
+      → other ≡ withDrive (b .drive) (record { sense = entry .sense; config = config; known = true; pending = true }) c
+      → outcome ≡ goodOutcome (b .drive) 0 0 other → silent outcome image ≡ initialize b given c image
+  unfolding initialize initializedBy initialized good
+  initialize-valid p e entry d other w o = rw (o, w, d, ← ten, ← is, e)

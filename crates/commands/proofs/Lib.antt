@@ -1,0 +1,12 @@
+pub mod Endings
+pub mod Initials
+pub mod Makings
+pub mod Formats
+pub mod Checkings
+pub mod Assigns
+pub mod Founds
+pub mod Ones
+pub mod Lasts
+pub mod Readings
+pub mod Writings
+pub mod Ends

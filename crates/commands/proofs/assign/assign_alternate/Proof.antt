@@ -1,0 +1,166 @@
+use Prim.Native.Nat.{_<_}
+use native.Mathlib.Omega.{arith}
+use lib.ListN.{getD}
+use Rattle.commands.proofs.Makings.{track-in}
+use Rattle.commands.proofs.Assigns.{passed-in, fault-below, alternate-below, assign-refused, assign-fails, assign-well}
+use borrow.Author.Needs.{needs}
+use Rattle.commands.proofs.assign.assign_alternate.Statement.{statement}
+use Rattle.commands.proofs.assign.assign_alternate.Tie as tie
+use Rattle.commands.proofs.assign.assign_alternate.Reads as reads
+use Rattle.commands.proofs.assign.assign_alternate.Lts as lts
+use Rattle.commands.proofs.assign.assign_faults.Reads as assign-faults-reads
+use Rattle.commands.proofs.assign.make_pair.Reads as make-pair-reads
+use Rattle.control.proofs.block.alternate_of.Reads as alternate-of-reads
+use Rattle.commands.proofs.format.fill_of.Reads as fill-of-reads
+use Rattle.control.proofs.record.failed.Reads as failed-reads
+use Rattle.control.proofs.record.good.Reads as good-reads
+use Rattle.control.proofs.record.refused.Reads as refused-reads
+use Rattle.geometry.proofs.params.Params.track_of.Reads as track-of-reads
+
+-- src/assign.rt:102:9
+alternate-of-requires : tie.Need-alternate-of-requires
+alternate-of-requires c κs = search needs
+
+-- src/assign.rt:103:43
+shared-slice-read-assign-faults : tie.Need-shared-slice-read-assign-faults
+shared-slice-read-assign-faults c = search needs
+
+-- src/assign.rt:103:9
+assign-faults-requires : tie.Need-assign-faults-requires
+assign-faults-requires c κs = search needs
+
+-- src/assign.rt:105:26
+enum-known-verdict : tie.Need-enum-known-verdict
+enum-known-verdict c = search needs
+
+-- src/assign.rt:105:37
+refused-requires : tie.Need-refused-requires
+refused-requires c κs = search needs
+
+-- src/assign.rt:106:25
+enum-known-verdict-2 : tie.Need-enum-known-verdict-2
+enum-known-verdict-2 c = search needs
+
+-- src/assign.rt:106:41
+failed-requires : tie.Need-failed-requires
+failed-requires c κs =
+    let alternate = c .before .before .before .before .before .before in
+    let a = alternate .before .before .before .before in
+    let known = alternate .before .before .before .shared-slice-known .given in
+    let h₁ : getD (a .args .given .now) 1 0 < 256 = omega (arith, known 1) in
+    let h₂ : getD (a .args .given .now) 2 0 < 256 = omega (arith, known 2) in
+    let below = alternate-below _ _ (alternate .alternate-of .ensures) h₁ h₂ in
+    let judged = c .before .before .before .assign-faults .ensures in
+    let fault = fault-below _ _ _ _ _ _ judged 2097152 (a .pre .2) below _ _ (c .before .verdict2 .given .1) in
+    (a .pre .1, fault .0, fault .1)
+
+-- src/assign.rt:108:17
+enum-told : tie.Need-enum-told
+enum-told c = search needs
+
+-- src/assign.rt:110:24
+fill-of-requires : tie.Need-fill-of-requires
+fill-of-requires c κs = search needs
+
+-- src/assign.rt:111:36
+track-of-requires : tie.Need-track-of-requires
+track-of-requires c κs = search needs
+
+-- src/assign.rt:111:52
+track-of-requires-2 : tie.Need-track-of-requires-2
+track-of-requires-2 c κs = search needs
+
+-- src/assign.rt:111:75
+sub-make-pair : tie.Need-sub-make-pair
+sub-make-pair c = search needs
+
+-- src/assign.rt:111:75
+part-make-pair-start : tie.Need-part-make-pair-start
+part-make-pair-start c = search needs
+
+-- src/assign.rt:111:75
+part-make-pair-end : tie.Need-part-make-pair-end
+part-make-pair-end c = search needs
+
+-- src/assign.rt:111:13
+make-pair-requires : tie.Need-make-pair-requires
+make-pair-requires c κs =
+    let told = c .before .before .before .before .before .before .before in
+    let judged = told .before .before in
+    let a = judged .before .before .before .before .before .before .before in
+    let in-drive = passed-in _ _ _ _ _ _ (judged .assign-faults .ensures) (a .pre .0 .within) (told .enum-told .given .1) in (
+      a .pre .0,
+      track-in _ _ _ (c .before .before .before .track-of .ensures) (a .pre .3),
+      track-in _ _ _ (c .before .before .track-of2 .ensures) in-drive,
+      a .pre .4,
+      search needs,
+    )
+
+-- src/assign.rt:112:13
+good-requires : tie.Need-good-requires
+good-requires c κs = search needs
+
+-- src/assign.rt:96:1
+same-length : tie.Need-same-length
+same-length c = search needs
+
+-- src/assign.rt:96:1
+returns : tie.Need-returns
+returns c =
+    let judged = c .before .before .before .before in
+    assign-refused _ _ _ _ _ _ _ (judged .before .before .before .alternate-of .ensures) _ (judged .assign-faults .ensures)
+    _ (c .before .before .verdict .given .1) (c .refused .ensures)
+
+-- src/assign.rt:96:1
+same-length-2 : tie.Need-same-length-2
+same-length-2 c = search needs
+
+-- src/assign.rt:96:1
+returns-2 : tie.Need-returns-2
+returns-2 c =
+    let judged = c .before .before .before .before in
+    assign-fails _ _ _ _ _ _ _ (judged .before .before .before .alternate-of .ensures) _ (judged .assign-faults .ensures)
+    _ _ (c .before .before .verdict2 .given .1) (c .failed .ensures)
+
+-- src/assign.rt:96:1
+same-length-3 : tie.Need-same-length-3
+same-length-3 c = search needs
+
+-- src/assign.rt:96:1
+returns-3 : tie.Need-returns-3
+returns-3 c =
+    let made = c .before .before .before in
+    let filled = made .before .before .before .before .before .before in
+    let told = filled .before .before in
+    let judged = told .before .before in
+    assign-well _ _ _ _ _ _ _ (judged .before .before .before .alternate-of .ensures) _ (judged .assign-faults .ensures)
+    _ _ _ _ (told .enum-told .given .1)
+    (made .before .before .before .before .track-of .ensures) (made .before .before .before .track-of2 .ensures)
+    (filled .fill-of .ensures .0) (made .make-pair .ensures) (c .good2 .ensures)
+
+pub assign-alternate-spec : {M : Type 1} → statement M
+assign-alternate-spec =
+    tie.close
+    (tie.spec
+    alternate-of-requires
+    shared-slice-read-assign-faults
+    assign-faults-requires
+    enum-known-verdict
+    refused-requires
+    enum-known-verdict-2
+    failed-requires
+    enum-told
+    fill-of-requires
+    track-of-requires
+    track-of-requires-2
+    sub-make-pair
+    part-make-pair-start
+    part-make-pair-end
+    make-pair-requires
+    good-requires
+    same-length
+    returns
+    same-length-2
+    returns-2
+    same-length-3
+    returns-3)

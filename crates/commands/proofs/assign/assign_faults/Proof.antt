@@ -1,0 +1,113 @@
+use Rattle.commands.proofs.Makings.{track-in}
+use Rattle.commands.proofs.Assigns.{first-past, alternate-past, pair-judged, alternate-in}
+use borrow.Author.Needs.{needs}
+use Rattle.commands.proofs.assign.assign_faults.Statement.{statement}
+use Rattle.commands.proofs.assign.assign_faults.Tie as tie
+use Rattle.commands.proofs.assign.assign_faults.Reads as reads
+use Rattle.commands.proofs.assign.assign_faults.Lts as lts
+use Rattle.commands.proofs.assign.pair_faults.Reads as pair-faults-reads
+use Rattle.control.proofs.logic.either.Reads as either-reads
+use Rattle.commands.proofs.format.is_bad.Reads as is-bad-reads
+use Rattle.commands.proofs.format.is_moved.Reads as is-moved-reads
+use Rattle.commands.proofs.format.is_taken.Reads as is-taken-reads
+use Rattle.geometry.proofs.params.Params.last_address.Reads as last-address-reads
+use Rattle.geometry.proofs.params.Params.track_of.Reads as track-of-reads
+use Rattle.track.proofs.pair.state_of.Reads as state-of-reads
+
+-- src/assign.rt:64:9
+returns : tie.Need-returns
+returns c = first-past _ _ _ _ _ _ (c .if1 .taken)
+
+-- src/assign.rt:66:9
+last-address-requires : tie.Need-last-address-requires
+last-address-requires c κs = search needs
+
+-- src/assign.rt:68:9
+returns-2 : tie.Need-returns-2
+returns-2 c =
+    let bound = c .before .before .before in
+    alternate-past _ _ _ _ _ _ (bound .before .if1 .left) _ (bound .last-address .ensures) (c .if2 .taken)
+
+-- src/assign.rt:70:9
+track-of-requires : tie.Need-track-of-requires
+track-of-requires c κs = search needs
+
+-- src/assign.rt:71:9
+track-of-requires-2 : tie.Need-track-of-requires-2
+track-of-requires-2 c κs = search needs
+
+-- src/assign.rt:72:9
+state-of-requires : tie.Need-state-of-requires
+state-of-requires c κs =
+    let a = c .before .before .before .before .before .before .before .before in
+    (a .pre .0, track-in _ _ _ (c .before .track-of .ensures) (a .pre .1))
+
+-- src/assign.rt:73:9
+state-of-requires-2 : tie.Need-state-of-requires-2
+state-of-requires-2 c κs =
+    let tested = c .before .before .before in
+    let a = tested .before .before .before .before .before .before in
+    let in-drive = alternate-in _ (a .pre .0 .within) _ _ (tested .before .before .before .last-address .ensures) (tested .if2 .left) in
+    (a .pre .0, track-in _ _ _ (c .before .track-of2 .ensures) in-drive)
+
+-- src/assign.rt:77:9
+is-moved-requires : tie.Need-is-moved-requires
+is-moved-requires c κs = search needs
+
+-- src/assign.rt:78:9
+is-taken-requires : tie.Need-is-taken-requires
+is-taken-requires c κs = search needs
+
+-- src/assign.rt:80:9
+is-taken-requires-2 : tie.Need-is-taken-requires-2
+is-taken-requires-2 c κs = search needs
+
+-- src/assign.rt:81:16
+is-moved-requires-2 : tie.Need-is-moved-requires-2
+is-moved-requires-2 c κs = search needs
+
+-- src/assign.rt:81:33
+is-bad-requires : tie.Need-is-bad-requires
+is-bad-requires c κs = search needs
+
+-- src/assign.rt:81:9
+either-requires : tie.Need-either-requires
+either-requires c κs = search needs
+
+-- src/assign.rt:74:5
+pair-faults-requires : tie.Need-pair-faults-requires
+pair-faults-requires c κs = search needs
+
+-- src/assign.rt:59:1
+returns-3 : tie.Need-returns-3
+returns-3 c =
+    let away = c .before .before .before .before in
+    let moved = away .before .before .before .before in
+    let tracks = moved .before .before .before in
+    let tested = tracks .before .before in
+    let bound = tested .before .before .before in
+    pair-judged _ _ _ _ _ (bound .before .if1 .left) _ (bound .last-address .ensures) (tested .if2 .left)
+    _ _ (tracks .before .track-of .ensures) (tracks .track-of2 .ensures)
+    _ _ (moved .before .before .state-of .ensures) (moved .before .state-of2 .ensures)
+    _ _ _ _ _ _ _ (moved .is-moved .ensures) (away .before .before .before .is-taken .ensures) (away .is-taken2 .ensures)
+    (c .before .before .before .is-moved2 .ensures) (c .before .before .is-bad .ensures) (c .before .either .ensures) (c .pair-faults .ensures)
+
+pub assign-faults-spec : {M : Type 1} → statement M
+assign-faults-spec =
+    tie.close
+    (tie.spec
+    returns
+    last-address-requires
+    returns-2
+    track-of-requires
+    track-of-requires-2
+    state-of-requires
+    state-of-requires-2
+    is-moved-requires
+    is-taken-requires
+    is-taken-requires-2
+    is-moved-requires-2
+    is-bad-requires
+    either-requires
+    pair-faults-requires
+    returns-3)

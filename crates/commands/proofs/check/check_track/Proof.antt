@@ -1,0 +1,84 @@
+use Rattle.commands.proofs.Makings.{track-in}
+use Rattle.commands.proofs.Checkings.{check-below, check-fails, check-well}
+use borrow.Author.Needs.{needs}
+use Rattle.commands.proofs.check.check_track.Statement.{statement}
+use Rattle.commands.proofs.check.check_track.Tie as tie
+use Rattle.commands.proofs.check.check_track.Reads as reads
+use Rattle.commands.proofs.check.check_track.Lts as lts
+use Rattle.control.proofs.record.failed.Reads as failed-reads
+use Rattle.control.proofs.record.good.Reads as good-reads
+use Rattle.geometry.proofs.params.Params.track_of.Reads as track-of-reads
+use Rattle.interleave.proofs.layout.Reads as layout-reads
+use Rattle.track.proofs.check.check_track.Reads as check-track-reads
+
+-- src/check.rt:23:25
+cast-layout : tie.Need-cast-layout
+cast-layout c = search needs
+
+-- src/check.rt:23:15
+layout-requires : tie.Need-layout-requires
+layout-requires c κs = search needs
+
+-- src/check.rt:24:52
+track-of-requires : tie.Need-track-of-requires
+track-of-requires c κs = search needs
+
+-- src/check.rt:24:68
+sub-check-track : tie.Need-sub-check-track
+sub-check-track c = search needs
+
+-- src/check.rt:24:68
+part-check-track-start : tie.Need-part-check-track-start
+part-check-track-start c = search needs
+
+-- src/check.rt:24:68
+part-check-track-end : tie.Need-part-check-track-end
+part-check-track-end c = search needs
+
+-- src/check.rt:24:9
+check-track-requires : tie.Need-check-track-requires
+check-track-requires c κs =
+    let a = c .before .before .before .before .before .before .before in
+    (a .pre .0, track-in _ _ _ (c .before .before .track-of .ensures) (a .pre .3), search needs)
+
+-- src/check.rt:26:9
+failed-requires : tie.Need-failed-requires
+failed-requires c κs =
+    let a = c .before .before .before .before .before .before .before .before .before in
+    (a .pre .1, check-below _ _ _ _ _ (c .before .check-track .ensures), a .pre .2)
+
+-- src/check.rt:26:9
+returns : tie.Need-returns
+returns c =
+    let checked = c .before .before in
+    let asked = checked .before .before .before in
+    check-fails _ _ _ _ _ _ _ _ (asked .before .before .before .before .before .pre .4) (asked .before .layout .ensures)
+    (asked .track-of .ensures) (checked .check-track .ensures) (c .before .if1 .taken) (c .failed .ensures)
+
+-- src/check.rt:28:5
+good-requires : tie.Need-good-requires
+good-requires c κs = search needs
+
+-- src/check.rt:16:1
+returns-2 : tie.Need-returns-2
+returns-2 c =
+    let checked = c .before .before in
+    let asked = checked .before .before .before in
+    check-well _ _ _ _ _ _ _ _ (asked .before .before .before .before .before .pre .4) (asked .before .layout .ensures)
+    (asked .track-of .ensures) (checked .check-track .ensures) (c .before .if1 .left) (c .good2 .ensures)
+
+pub check-track-spec : {M : Type 1} → statement M
+check-track-spec =
+    tie.close
+    (tie.spec
+    cast-layout
+    layout-requires
+    track-of-requires
+    sub-check-track
+    part-check-track-start
+    part-check-track-end
+    check-track-requires
+    failed-requires
+    returns
+    good-requires
+    returns-2)

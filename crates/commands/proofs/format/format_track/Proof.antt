@@ -1,0 +1,125 @@
+use Rattle.commands.proofs.Makings.{track-in, fill-lent}
+use Rattle.commands.proofs.Formats.{track-moved, track-taken, track-well}
+use borrow.Author.Needs.{needs}
+use Rattle.commands.proofs.format.format_track.Statement.{statement}
+use Rattle.commands.proofs.format.format_track.Tie as tie
+use Rattle.commands.proofs.format.format_track.Reads as reads
+use Rattle.commands.proofs.format.format_track.Lts as lts
+use Rattle.commands.proofs.format.is_moved.Reads as is-moved-reads
+use Rattle.commands.proofs.format.is_taken.Reads as is-taken-reads
+use Rattle.commands.proofs.format.make_at.Reads as make-at-reads
+use Rattle.control.proofs.record.failed.Reads as failed-reads
+use Rattle.control.proofs.record.good.Reads as good-reads
+use Rattle.geometry.proofs.params.Params.track_of.Reads as track-of-reads
+use Rattle.track.proofs.pair.state_of.Reads as state-of-reads
+
+-- src/format.rt:152:9
+track-of-requires : tie.Need-track-of-requires
+track-of-requires c κs = search needs
+
+-- src/format.rt:153:9
+state-of-requires : tie.Need-state-of-requires
+state-of-requires c κs =
+    let a = c .before .before .before .before in
+    (a .pre .0, track-in _ _ _ (c .before .track-of .ensures) (a .pre .3))
+
+-- src/format.rt:154:8
+is-moved-requires : tie.Need-is-moved-requires
+is-moved-requires c κs = search needs
+
+-- src/format.rt:155:9
+failed-requires : tie.Need-failed-requires
+failed-requires c κs = search needs
+
+-- src/format.rt:155:9
+same-length : tie.Need-same-length
+same-length c = search needs
+
+-- src/format.rt:155:9
+returns : tie.Need-returns
+returns c =
+    let moved = c .before .before in
+    let state = moved .before in
+    track-moved _ _ _ _ _ _ (state .before .before .track-of .ensures) _ _ _ (state .state-of .ensures) _ (moved .is-moved .ensures)
+    (c .before .if1 .taken) (c .failed .ensures)
+
+-- src/format.rt:157:8
+is-taken-requires : tie.Need-is-taken-requires
+is-taken-requires c κs = search needs
+
+-- src/format.rt:158:9
+failed-requires-2 : tie.Need-failed-requires-2
+failed-requires-2 c κs = search needs
+
+-- src/format.rt:158:9
+same-length-2 : tie.Need-same-length-2
+same-length-2 c = search needs
+
+-- src/format.rt:158:9
+returns-2 : tie.Need-returns-2
+returns-2 c =
+    let taken = c .before .before in
+    let moved = taken .before .before in
+    let state = moved .before in
+    track-taken _ _ _ _ _ _ (state .before .before .track-of .ensures) _ _ _ (state .state-of .ensures) _ (moved .is-moved .ensures)
+    (taken .before .if1 .left) _ (taken .is-taken .ensures) (c .before .if2 .taken) (c .failed2 .ensures)
+
+-- src/format.rt:161:36
+sub-make-at : tie.Need-sub-make-at
+sub-make-at c = search needs
+
+-- src/format.rt:161:36
+part-make-at-start : tie.Need-part-make-at-start
+part-make-at-start c = search needs
+
+-- src/format.rt:161:36
+part-make-at-end : tie.Need-part-make-at-end
+part-make-at-end c = search needs
+
+-- src/format.rt:161:5
+make-at-requires : tie.Need-make-at-requires
+make-at-requires c κs =
+    let asked = c .before .before .before .before .before .before .before .before .before in
+    let a = asked .before .before .before in
+    (a .pre .0, track-in _ _ _ (asked .track-of .ensures) (a .pre .3), a .pre .5, a .pre .4, search needs)
+
+-- src/format.rt:162:5
+good-requires : tie.Need-good-requires
+good-requires c κs = search needs
+
+-- src/format.rt:146:1
+same-length-3 : tie.Need-same-length-3
+same-length-3 c = search needs
+
+-- src/format.rt:146:1
+returns-3 : tie.Need-returns-3
+returns-3 c =
+    let made = c .before .before .before in
+    let taken = made .before .before .before .before .before in
+    let moved = taken .before .before in
+    let state = moved .before in
+    track-well _ _ _ _ _ _ (state .before .before .track-of .ensures) _ _ _ (state .state-of .ensures) _ (moved .is-moved .ensures)
+    (taken .before .if1 .left) _ (taken .is-taken .ensures)
+    _ _ (made .before .before .before .before .if2 .left) (fill-lent _ _) (made .make-at .ensures) (c .good2 .ensures)
+
+pub format-track-spec : {M : Type 1} → statement M
+format-track-spec =
+    tie.close
+    (tie.spec
+    track-of-requires
+    state-of-requires
+    is-moved-requires
+    failed-requires
+    same-length
+    returns
+    is-taken-requires
+    failed-requires-2
+    same-length-2
+    returns-2
+    sub-make-at
+    part-make-at-start
+    part-make-at-end
+    make-at-requires
+    good-requires
+    same-length-3
+    returns-3)

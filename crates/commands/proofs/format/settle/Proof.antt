@@ -1,0 +1,23 @@
+use Rattle.commands.proofs.Formats.{settled-by}
+use borrow.Author.Needs.{needs}
+use Rattle.commands.proofs.format.settle.Statement.{statement}
+use Rattle.commands.proofs.format.settle.Tie as tie
+use Rattle.commands.proofs.format.settle.Reads as reads
+use Rattle.commands.proofs.format.settle.Lts as lts
+use Rattle.control.proofs.record.drive_at.Reads as drive-at-reads
+use Rattle.control.proofs.record.with_drive.Reads as with-drive-reads
+
+-- src/format.rt:122:9
+drive-at-requires : tie.Need-drive-at-requires
+drive-at-requires c κs = search needs
+
+-- src/format.rt:124:5
+with-drive-requires : tie.Need-with-drive-requires
+with-drive-requires c κs = search needs
+
+-- src/format.rt:118:1
+returns : tie.Need-returns
+returns c = settled-by _ _ _ _ (c .before .drive-at .ensures) (c .with-drive .ensures)
+
+pub settle-spec : {M : Type 1} → statement M
+settle-spec = tie.close (tie.spec drive-at-requires with-drive-requires returns)

@@ -1,0 +1,73 @@
+use borrow.Author.Needs.{needs}
+use Rattle.commands.proofs.Initials.{initialize-invalid, initialize-valid}
+use Rattle.commands.proofs.initialize.initialize.Statement.{statement}
+use Rattle.commands.proofs.initialize.initialize.Tie as tie
+use Rattle.commands.proofs.initialize.initialize.Reads as reads
+use Rattle.commands.proofs.initialize.initialize.Lts as lts
+use Rattle.commands.proofs.initialize.config_of.Reads as config-of-reads
+use Rattle.control.proofs.record.drive_at.Reads as drive-at-reads
+use Rattle.control.proofs.record.failed.Reads as failed-reads
+use Rattle.control.proofs.record.good.Reads as good-reads
+use Rattle.control.proofs.record.with_drive.Reads as with-drive-reads
+use Rattle.geometry.proofs.config.setting_of.Reads as setting-of-reads
+
+-- src/initialize.rt:35:9
+config-of-requires : tie.Need-config-of-requires
+config-of-requires c κs = search needs
+
+-- src/initialize.rt:37:9
+setting-of-requires : tie.Need-setting-of-requires
+setting-of-requires c κs = search needs
+
+-- src/initialize.rt:39:29
+enum-told : tie.Need-enum-told
+enum-told c = search needs
+
+-- src/initialize.rt:39:29
+failed-requires : tie.Need-failed-requires
+failed-requires c κs = search needs
+
+-- src/initialize.rt:41:17
+enum-told-2 : tie.Need-enum-told-2
+enum-told-2 c = search needs
+
+-- src/initialize.rt:41:17
+drive-at-requires : tie.Need-drive-at-requires
+drive-at-requires c κs = search needs
+
+-- src/initialize.rt:49:18
+with-drive-requires : tie.Need-with-drive-requires
+with-drive-requires c κs = search needs
+
+-- src/initialize.rt:49:13
+good-requires : tie.Need-good-requires
+good-requires c κs = search needs
+
+-- src/initialize.rt:31:1
+returns : tie.Need-returns
+returns c =
+    let s = c .before .before .before in
+    initialize-invalid _ _ _ _ _ _ _ (s .before .config-of .ensures) (s .setting-of .ensures) (c .before .enum-told .given .1) (c .failed .ensures)
+
+-- src/initialize.rt:31:1
+returns-2 : tie.Need-returns-2
+returns-2 c =
+    let d = c .before .before .before in
+    let s = d .before .before .before in
+    initialize-valid _ _ _ _ _ _ _ (s .before .config-of .ensures) (s .setting-of .ensures) _ (d .before .enum-told2 .given .1)
+    _ (d .drive-at .ensures) _ (c .before .with-drive .ensures) (c .good2 .ensures)
+
+pub initialize-spec : {M : Type 1} → statement M
+initialize-spec =
+    tie.close
+    (tie.spec
+    config-of-requires
+    setting-of-requires
+    enum-told
+    failed-requires
+    enum-told-2
+    drive-at-requires
+    with-drive-requires
+    good-requires
+    returns
+    returns-2)

@@ -1,0 +1,52 @@
+// Initialize.
+use base::copy_bytes;
+use control::record::drive_at;
+use control::record::failed;
+use control::record::good;
+use control::record::with_drive;
+use geometry::config::Setting;
+use geometry::config::setting_of;
+use model::block::Block;
+use model::record::Controller;
+use model::record::Drive;
+use model::record::Outcome;
+ghost use mathlib.Core.Path.{_≡_};
+ghost use Prim.Native.Nat.{_≤_, _<_};
+ghost use lib.ListN.{length};
+ghost use Rattle.base.specs.Part.{part};
+ghost use Rattle.model.specs.Commands.{initialize};
+ghost use Rattle.control.specs.Leaves.{silent};
+
+// The ten configuration bytes given.
+fn config_of(given: &[u8]) -> [u8; 10]
+    requires { ⌜ 10 ≤ length (now given) ⌝ }
+    ensures { λ r. ⌜ r ≡ part 0 10 (now (given .entry)) ⌝ }
+{
+    let mut config = [0u8; 10];
+    copy_bytes(&mut config, &given[0..10]);
+    config
+}
+
+// The configuration comes into force, pending, if it is valid with the image; else 22h.
+pub fn initialize(c: Controller, b: Block, given: &[u8], image: &[u8]) -> Outcome
+    requires { ⌜ (b .drive < 4) × (b .address .0 < 2097152) × (10 ≤ length (now given)) ⌝ }
+    ensures { λ r. ⌜ silent r (now (image .entry)) ≡ initialize b (now (given .entry)) c (now (image .entry)) ⌝ }
+{
+    let config = config_of(given);
+    let drive = b.drive;
+    let setting = setting_of(config, image.len());
+    match setting {
+        Setting::Invalid => failed(c, drive, 0x22, b.address, 0, 0),
+        Setting::Valid(_) => {
+            let entry = drive_at(c, drive);
+            let sense = entry.sense;
+            let next = Drive {
+                sense: sense,
+                config: config,
+                known: true,
+                pending: true,
+            };
+            good(with_drive(c, drive, next), drive, 0, 0)
+        }
+    }
+}

@@ -1,0 +1,24 @@
+use borrow.Author.Needs.{needs}
+use Rattle.base.proofs.Decide.{decide}
+use Rattle.model.specs.Block.{countOf}
+use Rattle.control.proofs.block.count_of.Statement.{statement}
+use Rattle.control.proofs.block.count_of.Tie as tie
+use Rattle.control.proofs.block.count_of.Reads as reads
+use Rattle.control.proofs.block.count_of.Lts as lts
+
+-- src/block.rt:36:9
+returns : tie.Need-returns
+unfolding countOf
+returns c = search (needs, decide)
+
+-- src/block.rt:38:5
+cast-result : tie.Need-cast-result
+cast-result c = search needs
+
+-- src/block.rt:32:1
+returns-2 : tie.Need-returns-2
+unfolding countOf
+returns-2 c = search (needs, decide)
+
+pub count-of-spec : {M : Type 1} → statement M
+count-of-spec = tie.close (tie.spec returns cast-result returns-2)

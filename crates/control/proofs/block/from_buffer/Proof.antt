@@ -1,0 +1,14 @@
+use borrow.Author.Needs.{needs}
+use Rattle.model.specs.Block.{fromBuffer}
+use Rattle.control.proofs.block.from_buffer.Statement.{statement}
+use Rattle.control.proofs.block.from_buffer.Tie as tie
+use Rattle.control.proofs.block.from_buffer.Reads as reads
+use Rattle.control.proofs.block.from_buffer.Lts as lts
+
+-- src/block.rt:42:1
+returns : tie.Need-returns
+unfolding fromBuffer
+returns c = search needs
+
+pub from-buffer-spec : {M : Type 1} → statement M
+from-buffer-spec = tie.close (tie.spec returns)

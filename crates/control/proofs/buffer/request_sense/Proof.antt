@@ -1,0 +1,48 @@
+use borrow.Author.Needs.{needs}
+use Rattle.model.specs.Record.{goodOutcome}
+use mathlib.Core.Path.{refl}
+use lib.ListN.{length}
+use mathlib.Core.Path.{_≡_}
+use native.Mathlib.Omega.{arith}
+use Rattle.control.proofs.buffer.request_sense.Statement.{statement}
+use Rattle.control.proofs.buffer.request_sense.Tie as tie
+use Rattle.control.proofs.buffer.request_sense.Reads as reads
+use Rattle.control.proofs.buffer.request_sense.Lts as lts
+use Rattle.control.proofs.buffer.put_front.Reads as put-front-reads
+use Rattle.control.proofs.record.drive_at.Reads as drive-at-reads
+
+-- src/buffer.rt:40:9
+drive-at-requires : tie.Need-drive-at-requires
+drive-at-requires c κs = search needs
+
+-- src/buffer.rt:42:21
+slice-aggregate-put-front : tie.Need-slice-aggregate-put-front
+slice-aggregate-put-front c = search needs
+
+-- src/buffer.rt:42:5
+put-front-requires : tie.Need-put-front-requires
+put-front-requires c κs = let e : length (c .before .before .before .drive-at .result .sense) ≡ 4 = search needs in omega arith
+
+-- src/buffer.rt:47:21
+mul-t11 : tie.Need-mul-t11
+mul-t11 c = search needs
+
+-- src/buffer.rt:36:1
+same-length : tie.Need-same-length
+same-length c = search needs
+
+-- src/buffer.rt:36:1
+returns : tie.Need-returns
+unfolding goodOutcome
+returns c = (refl, simp (c .before .before .put-front .ensures, c .before .before .before .before .before .before .drive-at .ensures))
+
+pub request-sense-spec : {M : Type 1} → statement M
+request-sense-spec =
+    tie.close
+    (tie.spec
+    drive-at-requires
+    slice-aggregate-put-front
+    put-front-requires
+    mul-t11
+    same-length
+    returns)

@@ -1,0 +1,21 @@
+use borrow.Author.Needs.{needs}
+use Rattle.base.proofs.Decide.{decide}
+use Rattle.control.proofs.checks.interleave_wrong.Statement.{statement}
+use Rattle.control.proofs.checks.interleave_wrong.Tie as tie
+use Rattle.control.proofs.checks.interleave_wrong.Reads as reads
+use Rattle.control.proofs.checks.interleave_wrong.Lts as lts
+
+-- src/checks.rt:78:9
+returns : tie.Need-returns
+returns c = search (needs, decide)
+
+-- src/checks.rt:80:5
+sub-result : tie.Need-sub-result
+sub-result c = search needs
+
+-- src/checks.rt:73:1
+returns-2 : tie.Need-returns-2
+returns-2 c = search (needs, decide)
+
+pub interleave-wrong-spec : {M : Type 1} → statement M
+interleave-wrong-spec = tie.close (tie.spec returns sub-result returns-2)

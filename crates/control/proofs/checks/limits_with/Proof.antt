@@ -1,0 +1,88 @@
+use borrow.Author.Needs.{needs}
+use Rattle.control.specs.Limits.{limitsWith}
+use Rattle.control.proofs.checks.limits_with.Statement.{statement}
+use Rattle.control.proofs.checks.limits_with.Tie as tie
+use Rattle.control.proofs.checks.limits_with.Reads as reads
+use Rattle.control.proofs.checks.limits_with.Lts as lts
+use Rattle.control.proofs.logic.both.Reads as both-reads
+use Rattle.control.proofs.checks.interleave_wrong.Reads as interleave-wrong-reads
+use Rattle.control.proofs.checks.past_end.Reads as past-end-reads
+use Rattle.control.proofs.checks.reach_of.Reads as reach-of-reads
+use Rattle.geometry.proofs.params.Params.last_address.Reads as last-address-reads
+use Rattle.geometry.proofs.params.Params.track_of.Reads as track-of-reads
+
+-- src/checks.rt:95:9
+track-of-requires : tie.Need-track-of-requires
+track-of-requires c κs = search needs
+
+-- src/checks.rt:96:28
+reach-of-requires : tie.Need-reach-of-requires
+reach-of-requires c κs = search needs
+
+-- src/checks.rt:96:44
+last-address-requires : tie.Need-last-address-requires
+last-address-requires c κs = search needs
+
+-- src/checks.rt:96:9
+past-end-requires : tie.Need-past-end-requires
+past-end-requires c κs = search needs
+
+-- src/checks.rt:98:40
+interleave-wrong-requires : tie.Need-interleave-wrong-requires
+interleave-wrong-requires c κs = search needs
+
+-- src/checks.rt:98:21
+both-requires : tie.Need-both-requires
+both-requires c κs = search needs
+
+-- src/checks.rt:99:15
+both-requires-2 : tie.Need-both-requires-2
+both-requires-2 c κs = search needs
+
+-- src/checks.rt:100:23
+both-requires-3 : tie.Need-both-requires-3
+both-requires-3 c κs = search needs
+
+-- src/checks.rt:100:50
+both-requires-4 : tie.Need-both-requires-4
+both-requires-4 c κs = search needs
+
+-- src/checks.rt:100:18
+both-requires-5 : tie.Need-both-requires-5
+both-requires-5 c κs = search needs
+
+-- src/checks.rt:90:1
+returns : tie.Need-returns
+unfolding limitsWith
+returns c =
+    let b = c .before .before .before in
+    let i = b .before .before .before in
+    let r = i .before .before .before in
+    simp (
+      c .both5 .ensures,
+      c .before .both4 .ensures,
+      b .both3 .ensures,
+      b .before .both2 .ensures,
+      b .before .before .both .ensures,
+      i .interleave-wrong .ensures,
+      i .before .past-end .ensures,
+      i .before .before .last-address .ensures,
+      r .reach-of .ensures .0,
+      r .before .track-of .ensures,
+    )
+
+pub limits-with-spec : {M : Type 1} → statement M
+limits-with-spec =
+    tie.close
+    (tie.spec
+    track-of-requires
+    reach-of-requires
+    last-address-requires
+    past-end-requires
+    interleave-wrong-requires
+    both-requires
+    both-requires-2
+    both-requires-3
+    both-requires-4
+    both-requires-5
+    returns)

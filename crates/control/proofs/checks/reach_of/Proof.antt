@@ -1,0 +1,30 @@
+use borrow.Author.Needs.{needs}
+use native.Mathlib.Omega.{arith}
+use Rattle.control.proofs.Orders.{count-bounds}
+use Rattle.base.proofs.Decide.{decide}
+use Rattle.model.specs.Checks.{reach}
+use Rattle.control.proofs.checks.reach_of.Statement.{statement}
+use Rattle.control.proofs.checks.reach_of.Tie as tie
+use Rattle.control.proofs.checks.reach_of.Reads as reads
+use Rattle.control.proofs.checks.reach_of.Lts as lts
+use Rattle.control.proofs.block.count_of.Reads as count-of-reads
+
+-- src/checks.rt:68:9
+count-of-requires : tie.Need-count-of-requires
+count-of-requires c κs = search needs
+
+-- src/checks.rt:68:9
+returns : tie.Need-returns
+unfolding reach
+returns c =
+    let b = count-bounds (c .before .before .args .b) (search needs) in
+    let e = c .count-of .ensures in
+    (search (needs, decide), omega arith, omega arith)
+
+-- src/checks.rt:64:1
+returns-2 : tie.Need-returns-2
+unfolding reach
+returns-2 c = (search (needs, decide), omega arith, omega arith)
+
+pub reach-of-spec : {M : Type 1} → statement M
+reach-of-spec = tie.close (tie.spec count-of-requires returns returns-2)

@@ -1,0 +1,14 @@
+use Rattle.hex.specs.Line.{spoiltLine}
+use mathlib.Core.Path.{refl}
+use Rattle.hex.proofs.line.spoilt.Statement.{statement}
+use Rattle.hex.proofs.line.spoilt.Tie as tie
+use Rattle.hex.proofs.line.spoilt.Reads as reads
+use Rattle.hex.proofs.line.spoilt.Lts as lts
+
+-- src/line.rt:31:1
+returns : tie.Need-returns
+unfolding spoiltLine
+returns c = refl
+
+pub spoilt-spec : {M : Type 1} → statement M
+spoilt-spec = tie.close (tie.spec returns)
