@@ -19,3 +19,4 @@ pub mod Restarted
 pub mod Obeyed
 pub mod Called
 pub mod Claimed
+pub mod anchors

@@ -1,0 +1,15 @@
+-- Facts that pin claim and definitions where the claim alone would not show a slip.
+pub mod Session
+pub mod Sectors
+pub mod Transfers
+pub mod Order
+pub mod Assigning
+pub mod Formatting
+pub mod Configurations
+pub mod Damage
+pub mod Refusals
+pub mod Untouched
+pub mod Written
+pub mod Beyond
+pub mod Corollaries
+pub mod Examples

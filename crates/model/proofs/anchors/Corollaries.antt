@@ -1,0 +1,187 @@
+-- What follows for any controller, block, data and images from the engine's definition, and for zero images from the claim.
+use Prim.Native.Nat.{ℕ, zero, suc, _+_, _*_, _≤_, _<_}
+use mathlib.Core.Path.{_≡_, refl, ap, ap₂, _∙_}
+use mathlib.Core.Bool.{Bool, true, false}
+use mathlib.Core.List.{List, [], _∷_, map}
+use native.Mathlib.Omega.{arith}
+use lib.ListN.{length, take, drop, getD, replicate, length-replicate}
+use lib.Dec.{eqb}
+use borrow.Author.Tests.{le-ltb, ne-eqb}
+use Rattle.base.specs.Pick.{pick}
+use Rattle.base.specs.Part.{part}
+use Rattle.geometry.specs.declared.params.Track.{Track}
+use Rattle.geometry.specs.declared.params.Params.{Params}
+use Rattle.geometry.specs.declared.config.Setting.{Setting}
+use Rattle.geometry.specs.declared.config.Setting.the-variants.{Valid, Invalid}
+use Rattle.geometry.specs.Params.{Within, imageLength, trackCount}
+use Rattle.geometry.specs.Config.{settingBy, settingOf, labelSetting}
+use Rattle.track.specs.declared.find.Sector.the-variants.{Slot}
+use Rattle.track.specs.Image.{trackBytes, slotId, slotData}
+use Rattle.model.specs.declared.block.Block.{Block}
+use Rattle.model.specs.declared.table.Command.{Command}
+use Rattle.model.specs.declared.table.Command.the-variants.{Initialize}
+use Rattle.model.specs.declared.record.Controller.{Controller}
+use Rattle.model.specs.Block.{blockOf}
+use Rattle.model.specs.Table.{entryOf}
+use Rattle.model.specs.Calls.{Call, reset, command, Reply}
+use Rattle.model.specs.Record.{driveAt, settingIn, Effect}
+use Rattle.model.specs.Transfer.{begun, found, writing}
+use Rattle.model.specs.Commands.{initialize, carryOut}
+use Rattle.model.specs.Engine.{Result, obey, imageOf, left, execute, Executed, resetOf}
+use Rattle.model.specs.Machine.{Machine, freshMachine}
+use Rattle.model.specs.Claim.{replies, atEnd, State, Order, Reset, Command as Ordered, fed, by-reset, by-execute, Runs, end, next}
+use Rattle.model.specs.Claim.{begin, beginMachine, Holds, Claim}
+use Rattle.model.proofs.Claimed.{claimed}
+use Rattle.model.proofs.anchors.Refusals.{unmoved, Answered, accepted, unchanged, all-answered, images-kept}
+use Rattle.model.proofs.anchors.Beyond.{unless-image, initialized-image, past-kept, image-kept}
+use Rattle.model.proofs.anchors.Written.{Written, writes}
+use Rattle.model.proofs.anchors.Session.{brief, lengths, calls, answers, worked}
+
+-- ---- (a) Number 1, 2 or 3: status, message and counts 0, and controller, area and images as they were. There is no other number.
+module _ (choices : List ℕ) (c : Controller) (block given area image0 image1 : List ℕ) where
+  abbrev result : Result
+  result = execute choices c block given area image0 image1
+
+  refusal : 1 ≤ result .outcome .answer .number
+      → (result .outcome .answer .number ≤ 3) × (result ≡ unmoved c area image0 image1 (result .outcome .answer .number))
+  refusal some = by (all-answered choices c block given area image0 image1)
+    where
+      by : Answered c area image0 image1 result
+          → (result .outcome .answer .number ≤ 3) × (result ≡ unmoved c area image0 image1 (result .outcome .answer .number))
+      by (accepted z) = absurd (omega arith)
+      by (unchanged number least most is) = rw is (most, refl)
+
+-- ---- (b) Bytes past the image length that the parameters in force give stay, whatever the command, and so does the image's length
+beyond : (choices : List ℕ) (b : Block) (given : List ℕ) (area : ℕ) (c : Controller) (image : List ℕ) (p : Params)
+    → settingIn (driveAt c (b .drive)) (length image) ≡ Valid p
+    → (length (obey choices b given area c image .image) ≡ length image)
+    × ((at size : ℕ) → imageLength p ≤ at → part at size (obey choices b given area c image .image) ≡ part at size image)
+beyond choices b given area c image p valid = let past = past-kept choices b given area c image p valid in (past .len, past .same)
+
+-- and without parameters all bytes stay
+untouched : (choices : List ℕ) (b : Block) (given : List ℕ) (area : ℕ) (c : Controller) (image : List ℕ)
+    → settingIn (driveAt c (b .drive)) (length image) ≡ Invalid → obey choices b given area c image .image ≡ image
+untouched = image-kept
+
+-- ---- (c) A Write changes only the data bytes of slots that it found: the label, every ID and all other data stay
+module _ (p : Params) (w : Within p) (n a : ℕ) (choices given image : List ℕ) (fits : imageLength p ≤ length image)
+    (inside : a + n ≤ trackCount p * p .sectors) (enough : n * p .size ≤ length given) where
+  abbrev after : List ℕ
+  after = writing choices p n a given (begun image) .image
+
+  all-written : Written p choices n a image after
+  unfolding begun
+  all-written = writes p w n a choices given (begun image) fits inside enough
+
+  label-stays : part 0 16 after ≡ part 0 16 image
+  label-stays = all-written .label 0 16 (omega arith)
+
+  ids-stay : (t : Track) (k : ℕ) → t .0 < trackCount p → k < p .sectors → slotId p k (trackBytes p t after) ≡ slotId p k (trackBytes p t image)
+  ids-stay = all-written .ids
+
+  data-stay : (t : Track) (k : ℕ) → t .0 < trackCount p → k < p .sectors → ((i : ℕ) → i < n → found (drop i choices) p (a + i) image ≡ Slot t k → ⊥)
+      → slotData p k (trackBytes p t after) ≡ slotData p k (trackBytes p t image)
+  data-stay = all-written .others
+
+-- ---- (d) Initialize leaves the images
+left-images : (drive : ℕ) (e : Effect) (area image0 image1 : List ℕ) → e .image ≡ imageOf drive image0 image1
+    → (left drive e area image0 image1 .image0 ≡ image0) × (left drive e area image0 image1 .image1 ≡ image1)
+unfolding left
+left-images drive e area image0 image1 same = rw same (images-kept drive image0 image1)
+
+picked-images : (six : Bool) (x y : Result) (image0 image1 : List ℕ) → (x .image0 ≡ image0) × (x .image1 ≡ image1)
+    → (y .image0 ≡ image0) × (y .image1 ≡ image1) → (pick six x y .image0 ≡ image0) × (pick six x y .image1 ≡ image1)
+unfolding pick
+picked-images true x y image0 image1 hx hy = hx
+picked-images false x y image0 image1 hx hy = hy
+
+module _ (choices : List ℕ) (c : Controller) (given : List ℕ) where
+  initialize-obeyed : (b : Block) (area : ℕ) (image : List ℕ) → b .opcode ≡ 0x11 → obey choices b given area c image .image ≡ image
+  unfolding obey entryOf carryOut initialize
+  initialize-obeyed b area image is =
+      let command : entryOf (b .opcode) .command ≡ Initialize = ap (λ (opcode : ℕ). entryOf opcode .command) is in
+      unless-image _ b c image _
+      (ap (λ (k : Command). carryOut choices b (settingIn (driveAt c (b .drive)) (length image)) given c image k .image) command
+      ∙ initialized-image (settingOf (part 0 10 given) (length image)) b (part 0 10 given) c image)
+
+  initialize-leaves : (block area image0 image1 : List ℕ) → blockOf block .opcode ≡ 0x11
+      → (execute choices c block given area image0 image1 .image0 ≡ image0) × (execute choices c block given area image0 image1 .image1 ≡ image1)
+  unfolding execute
+  initialize-leaves block area image0 image1 is =
+      let drive = blockOf block .drive in
+      picked-images (eqb (length block) 6) _ _ image0 image1
+      (left-images drive _ area image0 image1 (initialize-obeyed (blockOf block) (length area) (imageOf drive image0 image1) is)) (refl, refl)
+
+-- ---- (e) Every list of orders has a run, from every state
+run : (orders : List Order) (s : State) → (answers : List Reply) × (t : State) × Runs s orders answers t
+unfolding Executed
+run [] s = ([], s, end)
+run (Reset ∷ orders) s =
+    let rest = run orders (record { controller = resetOf (s .image0) (s .image1) .controller; image0 = s .image0; image1 = s .image1 }) in
+    (_, rest .1, next (by-reset (resetOf (s .image0) (s .image1)) refl) (rest .2))
+run (Ordered block given area ∷ orders) s =
+    let r = execute [] (s .controller) block given area (s .image0) (s .image1) in
+    let rest = run orders (record { controller = r .outcome .controller; image0 = r .image0; image1 = r .image1 }) in
+    (_, rest .1, next (by-execute r ([], refl)) (rest .2))
+
+-- ---- (f) Zeros are no label: the claim holds for zero images of any lengths
+abbrev zeros : ℕ → List ℕ
+zeros n = replicate n 0
+
+zero-byte : (n i k : ℕ) → getD (take k (zeros n)) i 0 ≡ 0
+zero-byte zero i zero = refl
+zero-byte zero i (suc k) = refl
+zero-byte (suc n) i zero = refl
+zero-byte (suc n) zero (suc k) = refl
+zero-byte (suc n) (suc i) (suc k) = zero-byte n i k
+
+picked-invalid : (b : Bool) (s : Setting) → s ≡ Invalid → pick b s Invalid ≡ Invalid
+unfolding pick
+picked-invalid true s e = e
+picked-invalid false s e = refl
+
+no-cylinders : (heads step size burst image : ℕ) → settingBy 0 heads step size burst image ≡ Invalid
+unfolding settingBy pick
+no-cylinders heads step size burst image = refl
+
+zero-label : (n : ℕ) → labelSetting (zeros n) ≡ Invalid
+unfolding labelSetting settingOf part
+zero-label n =
+    let none : getD (take 10 (zeros n)) 0 0 * 256 + getD (take 10 (zeros n)) 1 0 ≡ 0 = omega (arith, zero-byte n 0 10, zero-byte n 1 10) in
+    picked-invalid _ _ (picked-invalid _ _ (rw none (no-cylinders _ _ _ _ _)))
+
+zero-claim : (n m : ℕ) (orders : List Order) (answers : List Reply) (s : State) → Runs (begin (zeros n) (zeros m)) orders answers s
+    → (answers ≡ replies (beginMachine (zeros n) (zeros m)) (map fed orders))
+    × ((drive : ℕ) → Holds (atEnd (beginMachine (zeros n) (zeros m)) (map fed orders) .disks drive) (imageOf drive (s .image0) (s .image1)))
+unfolding Claim
+zero-claim n m = claimed (zeros n) (zeros m) (zero-label n) (zero-label m)
+
+-- so the engine answers the worked session, the program's lines first, as it is written there
+both-lengths : (n drive : ℕ) → length (imageOf drive (zeros n) (zeros n)) ≡ lengths n drive
+unfolding imageOf lengths pick
+both-lengths n zero = length-replicate n 0
+both-lengths n (suc zero) = length-replicate n 0
+both-lengths n (suc (suc drive)) =
+    rw (le-ltb (suc (suc drive)) 2 (omega arith), ne-eqb (suc (suc drive)) 0 (omega arith), ne-eqb (suc (suc drive)) 1 (omega arith))
+
+machine-same : (n : ℕ) → beginMachine (zeros n) (zeros n) ≡ freshMachine (lengths n)
+unfolding beginMachine
+machine-same n = ap freshMachine (λ i drive. both-lengths n drive i)
+
+-- every list of calls comes from orders
+orderOf : Call → Order
+orderOf reset = Reset
+orderOf (command block given area) = Ordered block given (zeros area)
+
+fed-back : (all : List Call) → map fed (map orderOf all) ≡ all
+unfolding fed orderOf
+fed-back [] = refl
+fed-back (reset ∷ all) = ap {B = List Call} (λ cs. reset ∷ cs) (fed-back all)
+fed-back (command block given area ∷ all) =
+    ap₂ {C = List Call} (λ (n : ℕ) (cs : List Call). command block given n ∷ cs) (length-replicate area 0) (fed-back all)
+
+engine-worked : (orders : List Order) (said : List Reply) (s : State) → map fed orders ≡ calls → Runs (begin (zeros 25360) (zeros 25360)) orders said s
+    → map brief said ≡ answers
+engine-worked orders said s is runs =
+    ap (map brief) (zero-claim 25360 25360 orders said s runs .0
+    ∙ ap (replies (beginMachine (zeros 25360) (zeros 25360))) is ∙ ap (λ (m : Machine). replies m calls) (machine-same 25360)) ∙ worked

@@ -1,0 +1,158 @@
+-- A session on the plain machine, no engine in sight: each call beside the answer that document 01 has for it.
+use Prim.Native.Nat.{ℕ, _*_}
+use mathlib.Core.Path.{_≡_, refl}
+use mathlib.Core.List.{List, [], _∷_, _++_, map}
+use lib.ListN.{take, replicate}
+use lib.Dec.{ltb}
+use Rattle.base.specs.Pick.{pick}
+use Rattle.geometry.specs.Config.{sizeFor, fittedTo, settingBy, settingOf}
+use Rattle.model.specs.Block.{blockOf, countOf, fromBuffer}
+use Rattle.model.specs.Table.{entryOf}
+use Rattle.model.specs.Checks.{judged, presentWith, controlWrong, isValid, reach, testsWith, tests, sizeIn, bytesOf, lengthsWith, judge}
+use Rattle.model.specs.Sense.{addressed, senseOf}
+use Rattle.model.specs.Calls.{Call, reset, command, Reply}
+use Rattle.model.specs.Machine.{freshDisk, freshMachine, changed, withSense, withBuffer, withDisk, inForce, becomes, filled, storing}
+use Rattle.model.specs.Machine.{failing, well, providing}
+use Rattle.model.specs.Machine.{isBad, isMoved, isTaken, denied, paired, parted, partedBy, someParted, addressGiven, unassignable}
+use Rattle.model.specs.Machine.{finished, withFirst, passing, readFrom, writeFrom, inARow, leaving, transferBy, transfer}
+use Rattle.model.specs.Machine.{plain, filling, fromOn, reformatted}
+use Rattle.model.specs.Machine.{formatDrive, checkTrack, formatTrack, formatBadTrack, read, write, assignTo, assignAlternate, initializeBy}
+use Rattle.model.specs.Machine.{withParameters, carried, settingWith, seen, ordered, restored, step}
+use Rattle.model.specs.Claim.{replies}
+
+-- ---- A call and its answer in brief: number, status, message, sectors, bytes, and the first four bytes handed over
+record Line : Type 0 where
+  call : Call
+  answer : List ℕ
+
+pub brief : Reply → List ℕ
+brief r = r .number ∷ r .status ∷ r .message ∷ r .sectors ∷ r .bytes ∷ take 4 (r .handed)
+
+-- number, status, then sectors and bytes; the message is always 0
+says : (number status sectors bytes : ℕ) → (handed : List ℕ) → List ℕ
+says number status sectors bytes handed = number ∷ status ∷ 0 ∷ sectors ∷ bytes ∷ handed
+
+four : (a b c d : ℕ) → List ℕ
+four a b c d = a ∷ b ∷ c ∷ d ∷ []
+
+six : (a b c d e f : ℕ) → List ℕ
+six a b c d e f = a ∷ b ∷ c ∷ d ∷ e ∷ f ∷ []
+
+-- one head, 256 bytes a sector, 32 sectors a track
+config : (tracks : ℕ) → List ℕ
+config tracks = 0 ∷ tracks ∷ 1 ∷ 0 ∷ 1 ∷ 0 ∷ 0 ∷ 0 ∷ 0 ∷ 0x0B ∷ []
+
+-- a block and given data, the data area of 1,024 bytes
+sent : (block given answer : List ℕ) → Line
+sent block given answer = record { call = command block given 1024; answer = answer }
+
+-- Request Sense gives these four bytes
+senses : (drive a b c d : ℕ) → Line
+senses drive a b c d = sent (six 0x03 (32 * drive) 0 0 0 0) [] (says 0 (32 * drive) 0 4 (four a b c d))
+
+-- ---- The program frames of document 01, line by line
+frames : List Line
+frames =
+    sent (six 0x00 0 0 0 0 0) [] (says 0 2 0 0 [])
+    ∷ sent (six 0x03 0 0 0 0 0) [] (says 0 0 0 4 (four 0x0A 0 0 0))
+    ∷ sent (six 0x11 0 0 0 0 0) (0 ∷ 1 ∷ 1 ∷ 0 ∷ 1 ∷ 0 ∷ 0 ∷ 0 ∷ 0 ∷ 0x0B ∷ []) (says 0 0 0 0 [])
+    ∷ sent (six 0x04 0 0 0 1 0) [] (says 0 0 0 0 [])
+    ∷ sent (six 0x05 0 0 0 2 0) [] (says 0 2 0 0 [])
+    ∷ sent (six 0x03 0 0 0 0 0) [] (says 0 0 0 4 (four 0x9A 0 0 0))
+    ∷ sent (0 ∷ 0 ∷ []) [] (says 1 0 0 0 [])
+    ∷ []
+
+-- ---- Then three tracks: a bad one, an alternate, a pair that a partial format would split
+three : List Line
+three =
+    sent (six 0x11 0 0 0 0 0) (config 3) (says 0 0 0 0 [])
+    -- pending
+    ∷ sent (six 0x08 0 0 0 1 0) [] (says 0 2 0 0 [])
+    ∷ senses 0 0x16 0 0 0
+    ∷ sent (six 0x04 0 0 0 1 0) [] (says 0 0 0 0 [])
+    -- track 1 bad: the first sector is done, the second, at address 32, is 19h
+    ∷ sent (six 0x07 0 0 32 1 0) [] (says 0 0 0 0 [])
+    ∷ sent (six 0x08 0 0 31 2 0) [] (says 0 2 1 256 (four 0x6C 0x6C 0x6C 0x6C))
+    ∷ senses 0 0x99 0 0 32
+    -- track 1 moved to 2, interleave 3; then a Write over the boundary, and back
+    ∷ sent (six 0x0E 0 0 32 3 0) (0 ∷ 0 ∷ 64 ∷ []) (says 0 0 0 0 [])
+    ∷ sent (six 0x0A 0 0 31 2 0) (replicate 256 7 ++ replicate 256 8) (says 0 0 2 0 [])
+    ∷ sent (six 0x08 0 0 31 2 0) [] (says 0 0 2 512 (four 7 7 7 7))
+    ∷ sent (six 0x08 0 0 32 1 0) [] (says 0 0 1 256 (four 8 8 8 8))
+    ∷ sent (six 0x08 0 0 33 1 0) [] (says 0 0 1 256 (four 0x6C 0x6C 0x6C 0x6C))
+    -- a moved track has its assignment's interleave
+    ∷ sent (six 0x05 0 0 32 3 0) [] (says 0 0 0 0 [])
+    ∷ senses 0 0 0 0 0
+    ∷ sent (six 0x05 0 0 32 1 0) [] (says 0 2 0 0 [])
+    ∷ senses 0 0x9A 0 0 32
+    -- track 2 is taken; a format from it on would split the pair
+    ∷ sent (six 0x06 0 0 64 1 0) [] (says 0 2 0 0 [])
+    ∷ senses 0 0x9C 0 0 64
+    ∷ sent (six 0x04 0 0 65 1 0) [] (says 0 2 0 0 [])
+    ∷ senses 0 0x9D 0 0 65
+    ∷ []
+
+-- ---- Then Resets, a format of the pair, configurations stored and not stored, the buffer, and the other drives
+after : List Line
+after =
+    record { call = reset; answer = says 0 0 0 0 [] }
+    ∷ senses 0 0 0 0 0
+    ∷ sent (six 0x08 0 0 32 1 0) [] (says 0 0 1 256 (four 8 8 8 8))
+    ∷ sent (six 0x08 0 0 64 1 0) [] (says 0 2 0 0 [])
+    ∷ senses 0 0x9C 0 0 64
+    -- from track 1 on: the pair is sound again, track 0 keeps its bytes
+    ∷ sent (six 0x04 0 0 32 1 0) [] (says 0 0 0 0 [])
+    ∷ sent (six 0x08 0 0 31 3 0) [] (says 0 0 3 768 (four 7 7 7 7))
+    ∷ sent (six 0x08 0 0 32 1 0) [] (says 0 0 1 256 (four 0x6C 0x6C 0x6C 0x6C))
+    ∷ sent (six 0x08 0 0 64 1 0) [] (says 0 0 1 256 (four 0x6C 0x6C 0x6C 0x6C))
+    -- one track, in force and not stored: address 64 is past its end; Reset brings three tracks back
+    ∷ sent (six 0x11 0 0 0 0 0) (config 1) (says 0 0 0 0 [])
+    ∷ sent (six 0x08 0 0 64 1 0) [] (says 0 2 0 0 [])
+    ∷ senses 0 0xA1 0 0 64
+    ∷ record { call = reset; answer = says 0 0 0 0 [] }
+    ∷ sent (six 0x08 0 0 31 1 0) [] (says 0 0 1 256 (four 7 7 7 7))
+    ∷ sent (six 0x08 0 0 64 1 0) [] (says 0 0 1 256 (four 0x6C 0x6C 0x6C 0x6C))
+    -- four tracks are too many for the image
+    ∷ sent (six 0x11 0 0 0 0 0) (config 4) (says 0 2 0 0 [])
+    ∷ senses 0 0x22 0 0 0
+    -- control bit 5: the buffer's bytes are the fill; a sector read is left in the buffer
+    ∷ sent (six 0x0F 0 0 0 0 0) (replicate 256 1 ++ replicate 256 2) (says 0 0 0 0 [])
+    ∷ sent (six 0x06 0 0 64 5 0x20) [] (says 0 0 0 0 [])
+    ∷ sent (six 0x08 0 0 65 1 0) [] (says 0 0 1 256 (four 1 1 1 1))
+    ∷ sent (six 0x08 0 0 31 1 0) [] (says 0 0 1 256 (four 7 7 7 7))
+    ∷ sent (six 0x10 0 0 0 0 0) [] (says 0 0 0 512 (four 7 7 7 7))
+    -- drive 1 has no parameters; drives 2 and 3 are absent
+    ∷ sent (six 0x08 0x20 0 0 1 0) [] (says 0 0x22 0 0 [])
+    ∷ senses 1 0x0A 0x20 0 0
+    ∷ sent (six 0x11 0x40 0 0 0 0) (config 1) (says 0 0x42 0 0 [])
+    ∷ senses 2 0x04 0x40 0 0
+    -- drive 1 with two tracks of 17 sectors of 512 bytes
+    ∷ sent (six 0x11 0x20 0 0 0 0) (0 ∷ 1 ∷ 2 ∷ 0 ∷ 2 ∷ 0 ∷ 0 ∷ 0 ∷ 0 ∷ 0 ∷ []) (says 0 0x20 0 0 [])
+    ∷ sent (six 0x04 0x20 0 0 16 0) [] (says 0 0x20 0 0 [])
+    ∷ sent (six 0x0A 0x20 0 33 1 0) (replicate 512 9) (says 0 0x20 1 0 [])
+    ∷ sent (six 0x08 0x20 0 32 2 0) [] (says 0 0x20 2 1024 (four 0x6C 0x6C 0x6C 0x6C))
+    ∷ sent (six 0x10 0x60 0 0 0 0) [] (says 0 0x60 0 512 (four 9 9 9 9))
+    ∷ sent (six 0x0B 0x20 0 34 0 0) [] (says 0 0x22 0 0 [])
+    ∷ senses 1 0xA1 0x20 0 34
+    -- drive 0 has kept its own
+    ∷ sent (six 0x08 0 0 31 1 0) [] (says 0 0 1 256 (four 7 7 7 7))
+    ∷ []
+
+-- two images of one length; drives 2 and 3 have none
+unfoldable pub lengths : (image drive : ℕ) → ℕ
+lengths image drive = pick (ltb drive 2) image 0
+
+pub calls : List Call
+calls = map (λ (l : Line). l .call) (frames ++ (three ++ after))
+
+pub answers : List (List ℕ)
+answers = map (λ (l : Line). l .answer) (frames ++ (three ++ after))
+
+pub worked : map brief (replies (freshMachine (lengths 25360)) calls) ≡ answers
+unfolding brief says four six config sent senses frames three after lengths calls answers pick sizeFor fittedTo settingBy settingOf
+    blockOf countOf fromBuffer entryOf judged presentWith controlWrong isValid reach testsWith tests sizeIn bytesOf lengthsWith judge
+    addressed senseOf freshDisk freshMachine changed withSense withBuffer withDisk inForce becomes filled storing failing well providing
+    isBad isMoved isTaken denied paired parted partedBy someParted addressGiven unassignable finished withFirst passing readFrom writeFrom
+    inARow leaving transferBy transfer plain filling fromOn reformatted formatDrive checkTrack formatTrack formatBadTrack read write
+    assignTo assignAlternate initializeBy withParameters carried settingWith seen ordered restored step replies
+worked = refl
