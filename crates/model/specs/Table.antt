@@ -32,7 +32,7 @@ unknown = row Unknown false false false false false false false false false Noth
 -- bit 5 is defined. interleave, counted: what byte 4 is. settled: 16h applies; whole: but not where s is track 0.
 abbrev pub table : List Entry
 table =
-    --                  known drive param addr  fill  inter count settl whole takes   gives
+    -- known drive parameters address fill interleave counted settled whole takes gives
     row TestReady true true true false false false false false false Nothing Nothing
     ∷ row Recalibrate true true true false false false false false false Nothing Nothing
     ∷ unknown

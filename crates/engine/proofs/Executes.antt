@@ -1,0 +1,209 @@
+-- A command from its block to what it leaves: by the verdict of the order of checks, then put together for the drive named.
+use mathlib.Core.Path.{_≡_, refl, sym, ap, _∙_}
+use mathlib.Core.Bool.{Bool, true, false}
+use mathlib.Core.List.{List, [], _∷_, _++_}
+use Prim.Native.Nat.{ℕ, _<_}
+use native.Mathlib.Omega.{arith}
+use lib.ListN.{length}
+use lib.Dec.{eqb, leb}
+use borrow.Author.Tests.{eq-eqb, ne-eqb}
+use Rattle.base.specs.Pick.{pick}
+use Rattle.base.specs.Part.{splice}
+use Rattle.base.proofs.Decide.{pick-true, pick-false}
+use Rattle.geometry.specs.declared.params.Lba.{Lba}
+use Rattle.geometry.specs.declared.config.Setting.{Setting}
+use Rattle.geometry.specs.declared.config.Setting.the-variants.{Valid, Invalid}
+use Rattle.geometry.specs.Config.{byte}
+use Rattle.geometry.proofs.Settings.{setting-within}
+use Rattle.model.specs.declared.block.Block.{Block}
+use Rattle.model.specs.declared.table.Entry.{Entry}
+use Rattle.model.specs.declared.table.Command.{Command}
+use Rattle.model.specs.declared.record.Drive.{Drive}
+use Rattle.model.specs.declared.record.Controller.{Controller}
+use Rattle.model.specs.declared.record.Outcome.{Outcome}
+use Rattle.model.specs.declared.verdict.Verdict.{Verdict}
+use Rattle.model.specs.declared.verdict.Verdict.the-variants.{Refused, Faulty, Passed}
+use Rattle.model.specs.Block.{blockOf}
+use Rattle.model.specs.Table.{entryOf}
+use Rattle.model.specs.Checks.{Test, on, judged, View, presentWith, testsWith, tests, lengthsWith, judge}
+use Rattle.model.specs.Record.{driveAt, settingIn, bareOutcome, failedOutcome, Effect, refused, failed, unless}
+use Rattle.model.specs.Commands.{carryOut}
+use Rattle.model.specs.Engine.{viewOf, obey, imageOf, left, execute, Executed}
+use Rattle.control.specs.Limits.{Legal}
+use Rattle.control.specs.Leaves.{Left, leftNow, leftBy}
+use Rattle.engine.specs.Runs.{Admitted, Carried, Obeyed, resultNow}
+
+-- ---- the row of a command
+pub command-of : (opcode : ℕ) (e : Entry) → e ≡ entryOf opcode → entryOf opcode .command ≡ e .command
+command-of opcode e is = rw is
+
+-- the same setting and command by other names
+pub carried-as : (b : Block) (s s₁ : Setting) (given : List ℕ) (c : Controller) (area image : List ℕ) (k k₁ : Command) (outcome : Outcome)
+    (after made : List ℕ) → s ≡ s₁ → k ≡ k₁ → Carried b s₁ given c area image k₁ (leftNow outcome after made)
+    → Carried b s given c area image k (leftNow outcome after made)
+carried-as b s s₁ given c area image k k₁ outcome after made es ek h = rw (es, ek) h
+
+-- ---- a drive's setting is legal
+legal-pick : (known : Bool) (s : Setting) → Legal s → Legal (pick known s Invalid)
+unfolding pick
+legal-pick true s l = l
+legal-pick false s l = λ p e. absurd (let z : _≡_ {A = ℕ} 0 1 = cc in omega arith)
+
+pub setting-legal : (entry : Drive) (image : ℕ) (s : Setting) → s ≡ settingIn entry image → Legal s
+unfolding settingIn
+setting-legal entry image s is = rw is (legal-pick (entry .known) _ (λ p e. setting-within _ _ p e .0))
+
+-- the setting by the drive that was looked up
+pub setting-named : (c : Controller) (drive image : ℕ) (entry : Drive) (s : Setting) → entry ≡ driveAt c drive → s ≡ settingIn entry image
+    → settingIn (driveAt c drive) image ≡ s
+setting-named c drive image entry s ee es = rw (es, ee)
+
+-- ---- the code and the address of a fault are a test's
+module _ (P : ℕ → Lba → Type 0) (k : ℕ) (l : Lba) where
+  fault-in : (hit : Bool) (code : ℕ) (at : Lba) (more : List Test) (after : Verdict) → P code at → (judged more after ≡ Faulty k l → P k l)
+      → judged (on hit code at ∷ more) after ≡ Faulty k l → P k l
+  unfolding judged pick
+  fault-in true code at more after h next e = let ek : code ≡ k = cc in let el : at ≡ l = cc in rw (← ek, ← el) h
+  fault-in false code at more after h next e = next e
+
+  fault-none : (after : Verdict) → (after ≡ Faulty k l → P k l) → judged [] after ≡ Faulty k l → P k l
+  unfolding judged
+  fault-none after h e = h e
+
+-- lengths give a refusal, never a fault
+short-refused : (short small : Bool) (k : ℕ) (l : Lba) → pick short (Refused 2) (pick small (Refused 3) Passed) ≡ Faulty k l → ⊥
+unfolding pick
+short-refused true small k l e = let z : _≡_ {A = ℕ} 0 1 = cc in omega arith
+short-refused false true k l e = let z : _≡_ {A = ℕ} 0 1 = cc in omega arith
+short-refused false false k l e = let z : _≡_ {A = ℕ} 0 1 = cc in omega arith
+
+module _ (e : Entry) (b : Block) (k : ℕ) (l : Lba) where
+  -- the codes of the order are below 80h, and all go with the block's address
+  abbrev Own : ℕ → Lba → Type 0
+  Own code at = (code < 0x80) × (at ≡ b .address)
+
+  fault-with : (pending : Bool) (s : Setting) (after : Verdict) → (after ≡ Faulty k l → Own k l)
+      → judged (testsWith e b pending s) after ≡ Faulty k l → Own k l
+  unfolding testsWith
+  fault-with pending Invalid after h = fault-none Own k l after h
+  fault-with pending (Valid p) after h =
+      fault-in Own k l _ _ _ _ after (omega arith, refl)
+      (fault-in Own k l _ _ _ _ after (omega arith, refl) (fault-in Own k l _ _ _ _ after (omega arith, refl) (fault-none Own k l after h)))
+
+  fault-own : (v : View) (given area : ℕ) → judged (tests e b v) (lengthsWith e b (v .setting) given area) ≡ Faulty k l → Own k l
+  unfolding tests lengthsWith
+  fault-own v given area =
+      fault-in Own k l _ _ _ _ _ (omega arith, refl)
+      (fault-in Own k l _ _ _ _ _ (omega arith, refl)
+      (fault-in Own k l _ _ _ _ _ (omega arith, refl)
+      (fault-in Own k l _ _ _ _ _ (omega arith, refl)
+      (fault-with (v .pending) (v .setting) _ (λ z. absurd (short-refused _ _ k l z))))))
+
+-- ---- the verdict on a command
+module _ (b : Block) (view : View) (given area : ℕ) (verdict : Verdict) (is : verdict ≡ judge b view given area) where
+  pub fault-below : (code : ℕ) (at : Lba) → verdict ≡ Faulty code at → b .address .0 < 2097152 → (code < 0x80) × (at .0 < 2097152)
+  unfolding judge
+  fault-below code at e h =
+      let own = fault-own (entryOf (b .opcode)) b code at view given area (sym is ∙ e) in
+      (own .0, rw (own .1) h)
+
+-- what the code looks at is the drive's view
+pub view-is : (b : Block) (c : Controller) (image given area : ℕ) (entry : Drive) (s : Setting) (verdict : Verdict)
+    → entry ≡ driveAt c (b .drive) → s ≡ settingIn entry image
+    → verdict ≡ judge b (record { present = leb 16 image; setting = s; pending = entry .pending }) given area
+    → verdict ≡ judge b (viewOf (driveAt c (b .drive)) image) given area
+unfolding viewOf presentWith
+view-is b c image given area entry s verdict ee es is = is ∙ rw (es, ee)
+
+-- a command that passes is admitted
+pub admitted : (b : Block) (c : Controller) (image given area : ℕ) (verdict : Verdict) → b .drive < 4 → b .address .0 < 2097152
+    → verdict ≡ judge b (viewOf (driveAt c (b .drive)) image) given area → verdict ≡ Passed → Admitted c b given area image
+admitted b c image given area verdict hd ha is e = record { drive = hd; address = ha; passed = sym is ∙ e }
+
+-- ---- what is left by the verdict
+splice-none : (xs : List ℕ) → xs ≡ splice 0 [] xs
+unfolding splice
+splice-none xs = refl
+
+module _ (b : Block) (given : List ℕ) (c : Controller) (area image : List ℕ) (verdict : Verdict)
+    (is : verdict ≡ judge b (viewOf (driveAt c (b .drive)) (length image)) (length given) (length area)) where
+  obeyed-by : (choices : List ℕ)
+      → obey choices b given (length area) c image
+      ≡ unless verdict b c image
+      (carryOut choices b (settingIn (driveAt c (b .drive)) (length image)) given c image (entryOf (b .opcode) .command))
+  unfolding obey
+  obeyed-by choices = rw is
+
+  left-by : (choices : List ℕ) (l : Left)
+      → l ≡ leftBy (unless verdict b c image
+      (carryOut choices b (settingIn (driveAt c (b .drive)) (length image)) given c image (entryOf (b .opcode) .command))) area
+      → Obeyed b given c area image l
+  left-by choices l h = (choices, h ∙ ap (λ (f : Effect). leftBy f area) (sym (obeyed-by choices)))
+
+  pub obey-refused : (outcome : Outcome) (number : ℕ) → verdict ≡ Refused number → outcome ≡ bareOutcome number c
+      → Obeyed b given c area image (leftNow outcome area image)
+  unfolding unless refused leftBy
+  obey-refused outcome number e eo = left-by [] _ (rw (e, eo, ← splice-none area))
+
+  pub obey-failed : (outcome : Outcome) (code : ℕ) (at : Lba) → verdict ≡ Faulty code at → outcome ≡ failedOutcome (b .drive) code at 0 0 c
+      → Obeyed b given c area image (leftNow outcome area image)
+  unfolding unless failed leftBy
+  obey-failed outcome code at e eo = left-by [] _ (rw (e, eo, ← splice-none area))
+
+  pub obey-carried : (s : Setting) (l : Left) → verdict ≡ Passed → settingIn (driveAt c (b .drive)) (length image) ≡ s
+      → Carried b s given c area image (entryOf (b .opcode) .command) l → Obeyed b given c area image l
+  unfolding unless
+  obey-carried s l e es h = left-by (h .0) l (rw (e, es) (h .1))
+
+-- ---- the fields of a block
+pub block-fields : (bytes : List ℕ) (b : Block) → b ≡ blockOf bytes → ((i : ℕ) → byte bytes i < 256) → (b .drive < 4) × (b .address .0 < 2097152)
+unfolding blockOf
+block-fields bytes b e below = rw e (omega arith, omega (arith, below 2, below 3))
+
+-- ---- what a call leaves, put together
+left-put : (drive : ℕ) (effect : Effect) (area image0 image1 : List ℕ) (l : Left) → l ≡ leftBy effect area
+    → resultNow (l .outcome) (l .area) (pick (eqb drive 0) (l .image) image0) (pick (eqb drive 1) (l .image) image1)
+    ≡ left drive effect area image0 image1
+unfolding left leftBy
+left-put drive effect area image0 image1 l e = rw e
+
+empty : (xs : List ℕ) → length xs ≡ 0 → xs ≡ []
+empty [] e = refl
+empty (x ∷ xs) e = absurd (omega arith)
+
+module _ (c : Controller) (block given area image0 image1 : List ℕ) where
+  pub execute-refused : (outcome : Outcome) → (length block ≡ 6 → ⊥) → outcome ≡ bareOutcome 1 c
+      → Executed c block given area image0 image1 (resultNow outcome area image0 image1)
+  unfolding Executed execute
+  execute-refused outcome h e = ([], rw (pick-false _ _ _ (ne-eqb _ _ h), e))
+
+  module _ (six : length block ≡ 6) (b : Block) (eb : b ≡ blockOf block) (outcome : Outcome) (after image : List ℕ) where
+    -- from what the command leaves on the image of its drive
+    executed : (own left0 left1 : List ℕ) → own ≡ imageOf (b .drive) image0 image1
+        → left0 ≡ pick (eqb (b .drive) 0) image image0 → left1 ≡ pick (eqb (b .drive) 1) image image1
+        → Obeyed b given c area own (leftNow outcome after image) → Executed c block given area image0 image1 (resultNow outcome after left0 left1)
+    unfolding Executed execute
+    executed own left0 left1 e e₀ e₁ h =
+        let effect = obey (h .0) b given (length area) c (imageOf (b .drive) image0 image1) in
+        let is : leftNow outcome after image ≡ leftBy effect area = rw (← e) (h .1) in
+        (h .0, rw (pick-true _ _ _ (eq-eqb _ _ six), ← eb, e₀, e₁) (left-put (b .drive) effect area image0 image1 _ is))
+
+    pub execute-first : b .drive ≡ 0 → Obeyed b given c area image0 (leftNow outcome after image)
+        → Executed c block given area image0 image1 (resultNow outcome after image image1)
+    unfolding imageOf pick
+    execute-first h = executed image0 image image1 (rw h) (rw h) (rw h)
+
+    pub execute-second : b .drive ≡ 1 → Obeyed b given c area image1 (leftNow outcome after image)
+        → Executed c block given area image0 image1 (resultNow outcome after image0 image)
+    unfolding imageOf pick
+    execute-second h = executed image1 image0 image (rw h) (rw h) (rw h)
+
+    -- what the command does to an image of no bytes is dropped
+    pub execute-absent : (b .drive ≡ 0 → ⊥) → (b .drive ≡ 1 → ⊥) → length image ≡ 0 → Obeyed b given c area [] (leftNow outcome after image)
+        → Executed c block given area image0 image1 (resultNow outcome after (image ++ image0) image1)
+    unfolding imageOf
+    execute-absent h₀ h₁ none =
+        let n₀ = ne-eqb (b .drive) 0 h₀ in
+        let n₁ = ne-eqb (b .drive) 1 h₁ in
+        executed [] (image ++ image0) image1 (rw (pick-false _ _ _ n₀, pick-false _ _ _ n₁))
+        (rw (empty image none, pick-false _ _ _ n₀)) (rw (pick-false _ _ _ n₁))

@@ -1,0 +1,5 @@
+pub mod Resets
+pub mod Admits
+pub mod Senses
+pub mod Carries
+pub mod Executes

@@ -1,0 +1,50 @@
+use borrow.Author.Needs.{needs}
+use Rattle.engine.proofs.Resets.{label-long, load-invalid, load-valid}
+use mathlib.Core.Path.{_∙_}
+use Rattle.engine.proofs.reset.load.Statement.{statement}
+use Rattle.engine.proofs.reset.load.Tie as tie
+use Rattle.engine.proofs.reset.load.Reads as reads
+use Rattle.engine.proofs.reset.load.Lts as lts
+use Rattle.engine.proofs.reset.blank_drive.Reads as blank-drive-reads
+use Rattle.geometry.proofs.config.label_config.Reads as label-config-reads
+use Rattle.geometry.proofs.config.label_setting.Reads as label-setting-reads
+
+-- src/reset.rt:28:9
+label-setting-requires : tie.Need-label-setting-requires
+label-setting-requires c κs = search needs
+
+-- src/reset.rt:30:29
+enum-told : tie.Need-enum-told
+enum-told c = search needs
+
+-- src/reset.rt:30:29
+blank-drive-requires : tie.Need-blank-drive-requires
+blank-drive-requires c κs = search needs
+
+-- src/reset.rt:32:20
+enum-told-2 : tie.Need-enum-told-2
+enum-told-2 c = search needs
+
+-- src/reset.rt:33:21
+label-config-requires : tie.Need-label-config-requires
+label-config-requires c κs = label-long _ _ (c .before .before .label-setting .ensures) _ (c .enum-told2 .given .1)
+
+-- src/reset.rt:25:1
+returns : tie.Need-returns
+returns c = c .blank-drive .ensures ∙ load-invalid _ _ (c .before .before .before .label-setting .ensures) (c .before .enum-told .given .1)
+
+-- src/reset.rt:25:1
+returns-2 : tie.Need-returns-2
+returns-2 c = load-valid _ _ (c .before .before .before .label-setting .ensures) _ (c .before .enum-told2 .given .1) _ (c .label-config .ensures)
+
+pub load-spec : {M : Type 1} → statement M
+load-spec =
+    tie.close
+    (tie.spec
+    label-setting-requires
+    enum-told
+    blank-drive-requires
+    enum-told-2
+    label-config-requires
+    returns
+    returns-2)
