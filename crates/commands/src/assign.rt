@@ -1,10 +1,10 @@
 // Assign Alternate.
-use crate::format::fill_of;
-use crate::format::is_bad;
-use crate::format::is_moved;
-use crate::format::is_taken;
-use crate::format::make_at;
-use crate::format::plain_fill;
+use crate::making::fill_of;
+use crate::making::make_at;
+use crate::making::plain_fill;
+use crate::state::is_bad;
+use crate::state::is_moved;
+use crate::state::is_taken;
 use control::block::alternate_of;
 use control::logic::either;
 use control::record::failed;

@@ -3,4 +3,8 @@ pub mod assign;
 pub mod check;
 pub mod format;
 pub mod initialize;
+pub mod making;
+pub mod read;
+pub mod state;
 pub mod transfer;
+pub mod write;

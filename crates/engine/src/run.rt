@@ -1,13 +1,13 @@
 // A command from its block to its outcome.
 use commands::assign::assign_alternate;
 use commands::check::check_track;
-use commands::format::fill_of;
 use commands::format::format_drive;
 use commands::format::format_track;
-use commands::format::plain_fill;
 use commands::initialize::initialize;
-use commands::transfer::read;
-use commands::transfer::write;
+use commands::making::fill_of;
+use commands::making::plain_fill;
+use commands::read::read;
+use commands::write::write;
 use control::block::decode;
 use control::buffer::read_buffer;
 use control::buffer::request_sense;

@@ -11,7 +11,7 @@ use Rattle.commands.proofs.assign.assign_alternate.Lts as lts
 use Rattle.commands.proofs.assign.assign_faults.Reads as assign-faults-reads
 use Rattle.commands.proofs.assign.make_pair.Reads as make-pair-reads
 use Rattle.control.proofs.block.alternate_of.Reads as alternate-of-reads
-use Rattle.commands.proofs.format.fill_of.Reads as fill-of-reads
+use Rattle.commands.proofs.making.fill_of.Reads as fill-of-reads
 use Rattle.control.proofs.record.failed.Reads as failed-reads
 use Rattle.control.proofs.record.good.Reads as good-reads
 use Rattle.control.proofs.record.refused.Reads as refused-reads

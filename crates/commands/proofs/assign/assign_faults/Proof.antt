@@ -7,9 +7,9 @@ use Rattle.commands.proofs.assign.assign_faults.Reads as reads
 use Rattle.commands.proofs.assign.assign_faults.Lts as lts
 use Rattle.commands.proofs.assign.pair_faults.Reads as pair-faults-reads
 use Rattle.control.proofs.logic.either.Reads as either-reads
-use Rattle.commands.proofs.format.is_bad.Reads as is-bad-reads
-use Rattle.commands.proofs.format.is_moved.Reads as is-moved-reads
-use Rattle.commands.proofs.format.is_taken.Reads as is-taken-reads
+use Rattle.commands.proofs.state.is_bad.Reads as is-bad-reads
+use Rattle.commands.proofs.state.is_moved.Reads as is-moved-reads
+use Rattle.commands.proofs.state.is_taken.Reads as is-taken-reads
 use Rattle.geometry.proofs.params.Params.last_address.Reads as last-address-reads
 use Rattle.geometry.proofs.params.Params.track_of.Reads as track-of-reads
 use Rattle.track.proofs.pair.state_of.Reads as state-of-reads

@@ -7,8 +7,8 @@ use Rattle.commands.proofs.assign.make_pair.Statement.{statement}
 use Rattle.commands.proofs.assign.make_pair.Tie as tie
 use Rattle.commands.proofs.assign.make_pair.Reads as reads
 use Rattle.commands.proofs.assign.make_pair.Lts as lts
-use Rattle.commands.proofs.format.make_at.Reads as make-at-reads
-use Rattle.commands.proofs.format.plain_fill.Reads as plain-fill-reads
+use Rattle.commands.proofs.making.make_at.Reads as make-at-reads
+use Rattle.commands.proofs.making.plain_fill.Reads as plain-fill-reads
 
 -- src/assign.rt:91:17
 plain-fill-requires : tie.Need-plain-fill-requires

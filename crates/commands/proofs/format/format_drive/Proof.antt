@@ -4,8 +4,8 @@ use Rattle.commands.proofs.format.format_drive.Statement.{statement}
 use Rattle.commands.proofs.format.format_drive.Tie as tie
 use Rattle.commands.proofs.format.format_drive.Reads as reads
 use Rattle.commands.proofs.format.format_drive.Lts as lts
-use Rattle.commands.proofs.format.fill_of.Reads as fill-of-reads
-use Rattle.commands.proofs.format.make_drive.Reads as make-drive-reads
+use Rattle.commands.proofs.making.fill_of.Reads as fill-of-reads
+use Rattle.commands.proofs.making.make_drive.Reads as make-drive-reads
 use Rattle.commands.proofs.format.settle.Reads as settle-reads
 use Rattle.control.proofs.record.drive_at.Reads as drive-at-reads
 use Rattle.control.proofs.record.failed.Reads as failed-reads

@@ -5,9 +5,9 @@ use Rattle.commands.proofs.format.format_track.Statement.{statement}
 use Rattle.commands.proofs.format.format_track.Tie as tie
 use Rattle.commands.proofs.format.format_track.Reads as reads
 use Rattle.commands.proofs.format.format_track.Lts as lts
-use Rattle.commands.proofs.format.is_moved.Reads as is-moved-reads
-use Rattle.commands.proofs.format.is_taken.Reads as is-taken-reads
-use Rattle.commands.proofs.format.make_at.Reads as make-at-reads
+use Rattle.commands.proofs.state.is_moved.Reads as is-moved-reads
+use Rattle.commands.proofs.state.is_taken.Reads as is-taken-reads
+use Rattle.commands.proofs.making.make_at.Reads as make-at-reads
 use Rattle.control.proofs.record.failed.Reads as failed-reads
 use Rattle.control.proofs.record.good.Reads as good-reads
 use Rattle.geometry.proofs.params.Params.track_of.Reads as track-of-reads

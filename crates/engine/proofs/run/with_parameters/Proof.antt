@@ -13,13 +13,13 @@ use Rattle.engine.proofs.run.with_parameters.Reads as reads
 use Rattle.engine.proofs.run.with_parameters.Lts as lts
 use Rattle.commands.proofs.assign.assign_alternate.Reads as assign-alternate-reads
 use Rattle.commands.proofs.check.check_track.Reads as check-track-reads
-use Rattle.commands.proofs.format.fill_of.Reads as fill-of-reads
+use Rattle.commands.proofs.making.fill_of.Reads as fill-of-reads
 use Rattle.commands.proofs.format.format_drive.Reads as format-drive-reads
 use Rattle.commands.proofs.format.format_track.Reads as format-track-reads
-use Rattle.commands.proofs.format.plain_fill.Reads as plain-fill-reads
+use Rattle.commands.proofs.making.plain_fill.Reads as plain-fill-reads
 use Rattle.commands.proofs.initialize.initialize.Reads as initialize-reads
-use Rattle.commands.proofs.transfer.read.Reads as read-reads
-use Rattle.commands.proofs.transfer.write.Reads as write-reads
+use Rattle.commands.proofs.read.read.Reads as read-reads
+use Rattle.commands.proofs.write.write.Reads as write-reads
 use Rattle.control.proofs.buffer.read_buffer.Reads as read-buffer-reads
 use Rattle.control.proofs.buffer.request_sense.Reads as request-sense-reads
 use Rattle.control.proofs.buffer.write_buffer.Reads as write-buffer-reads

@@ -1,0 +1,73 @@
+// Tracks and the label made anew.
+use base::copy_bytes;
+use control::block::from_buffer;
+use control::buffer::put_front;
+use geometry::params::Params;
+use geometry::params::Track;
+use interleave::layout;
+use model::block::Block;
+use track::format::format_at;
+use track::format::format_from;
+use track::id::State;
+ghost use mathlib.Core.Path.{_≡_};
+ghost use mathlib.Core.List.{_++_};
+ghost use Prim.Native.Nat.{_≤_, _<_};
+ghost use lib.ListN.{length};
+ghost use Rattle.base.specs.Pick.{pick};
+ghost use Rattle.base.specs.Part.{part, splice};
+ghost use Rattle.geometry.specs.Params.{trackCount, trackOf};
+ghost use Rattle.geometry.specs.Config.{labelRest};
+ghost use Rattle.track.specs.Id.{partnerOf};
+ghost use Rattle.track.specs.Image.{Fits};
+ghost use Rattle.model.specs.Block.{fromBuffer};
+ghost use Rattle.model.specs.Commands.{plainFill, madeAt, driveFormatted};
+
+// 512 bytes of 6Ch: the first D of them fill a sector.
+pub fn plain_fill(p: Params) -> [u8; 512]
+    requires { ⌜ p .size ≤ 512 ⌝ }
+    ensures { λ r. ⌜ (part 0 (p .size) r ≡ plainFill p) × (length r ≡ 512) ⌝ }
+{
+    [0x6C; 512]
+}
+
+// The first D bytes are what a format with this block fills sectors with.
+pub fn fill_of(b: Block, p: Params, buffer: [u8; 512]) -> [u8; 512]
+    requires { ⌜ p .size ≤ 512 ⌝ }
+    ensures { λ r. ⌜ (part 0 (p .size) r ≡ pick (fromBuffer b) (part 0 (p .size) buffer) (plainFill p)) × (length r ≡ 512) ⌝ }
+{
+    if from_buffer(b) {
+        return buffer;
+    }
+    plain_fill(p)
+}
+
+// Formats one track with the block's interleave.
+pub fn make_at(image: &mut [u8], b: Block, p: Params, t: Track, state: State, fill: &[u8])
+    requires { ⌜ Fits p (now image) × (t .0 < trackCount p) × (partnerOf state .0 < 65536) × (b .extra < p .sectors) × (length (now fill) ≡ p .size) ⌝ }
+    ensures { λ _. ⌜ now (image .exit) ≡ madeAt b p t state (now (fill .entry)) (now (image .entry)) ⌝ }
+{
+    let n = p.sectors;
+    let map = layout(n, b.extra as usize);
+    format_at(image, p, t, state, &map[0..n], fill);
+}
+
+// The configuration in force and six zeros, over the label.
+fn write_label(image: &mut [u8], config: [u8; 10])
+    requires { ⌜ 16 ≤ length (now image) ⌝ }
+    ensures { λ _. ⌜ now (image .exit) ≡ splice 0 (config ++ labelRest) (now (image .entry)) ⌝ }
+{
+    let mut label = [0u8; 16];
+    copy_bytes(&mut label[0..10], &config);
+    put_front(image, &label);
+}
+
+// Formats the tracks from the block's on, then writes the label.
+pub fn make_drive(image: &mut [u8], b: Block, p: Params, config: [u8; 10], fill: &[u8])
+    requires { ⌜ Fits p (now image) × (trackOf p (b .address) .0 < trackCount p) × (b .extra < p .sectors) × (length (now fill) ≡ p .size) ⌝ }
+    ensures { λ _. ⌜ now (image .exit) ≡ driveFormatted b p config (now (fill .entry)) (now (image .entry)) ⌝ }
+{
+    let n = p.sectors;
+    let map = layout(n, b.extra as usize);
+    format_from(image, p, p.track_of(b.address), &map[0..n], fill);
+    write_label(image, config);
+}
