@@ -78,9 +78,10 @@ module _ (answer : Answer) (handed text : List ℕ) (room : 7 + 2 * length hande
   -- what its caller reads of it
   pub told-text : (after : List ℕ) (n : ℕ) → n ≡ 7 + 2 * length handed → after ≡ splice 0 (answerText answer handed) text
       → (n ≤ length after) × (take n after ≡ answerText answer handed)
-  told-text after n en e =
-      (rw e (omega (arith, length-answered)),
-      rw (e, en) (take-front (7 + 2 * length handed) (answerText answer handed) text (length-answer answer handed)))
+  told-text after n en e = (
+    rw e (omega (arith, length-answered)),
+    rw (e, en) (take-front (7 + 2 * length handed) (answerText answer handed) text (length-answer answer handed)),
+  )
 
 -- ---- FF and its line feed
 pub bad-written : (text : List ℕ) → 3 ≤ length text

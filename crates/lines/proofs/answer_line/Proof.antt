@@ -23,9 +23,10 @@ returns : tie.Need-returns
 returns c =
     let answered = c .before .before .answer-bad in
     let tested = c .before .before .before .before in
-    let start = tested .before .before .before .before .before .before in
-    (answered .ensures .0,
-    bad-answered _ (start .args .line) _ _ _ _ (answered .result) (answered .last .1 .0) (answered .ensures .1) (tested .if1 .taken))
+    let start = tested .before .before .before .before .before .before in (
+      answered .ensures .0,
+      bad-answered _ (start .args .line) _ _ _ _ (answered .result) (answered .last .1 .0) (answered .ensures .1) (tested .if1 .taken),
+    )
 
 -- src/lib.rt:114:9
 answer-bad-requires-2 : tie.Need-answer-bad-requires-2
@@ -40,9 +41,10 @@ returns-2 : tie.Need-returns-2
 returns-2 c =
     let answered = c .before .before .answer-bad2 in
     let tested = c .before .before .before .before in
-    let start = tested .before .before .before .before .before .before .before in
-    (answered .ensures .0,
-    half-answered _ (start .args .line) _ _ _ _ (answered .result) (answered .last .1 .0) (answered .ensures .1) (tested .if2 .taken))
+    let start = tested .before .before .before .before .before .before .before in (
+      answered .ensures .0,
+      half-answered _ (start .args .line) _ _ _ _ (answered .result) (answered .last .1 .0) (answered .ensures .1) (tested .if2 .taken),
+    )
 
 -- src/lib.rt:116:17
 sub-is-reset : tie.Need-sub-is-reset
@@ -82,10 +84,11 @@ returns-3 c =
     let answered = c .before .before .answer-reset .ensures in
     let tested = c .before .before .before .before .before .before in
     let whole = tested .before .before .before in
-    let start = whole .before .before .before .before .before .before .before in
-    (answered .0,
-    line-reset _ (start .args .line) (start .args .bytes .now) _ _ _ _ (whole .before .if1 .left) (whole .if2 .left)
-    _ (tested .before .is-reset .ensures) (tested .if3 .taken) (answered .1))
+    let start = whole .before .before .before .before .before .before .before in (
+      answered .0,
+      line-reset _ (start .args .line) (start .args .bytes .now) _ _ _ _ (whole .before .if1 .left) (whole .if2 .left)
+          _ (tested .before .is-reset .ensures) (tested .if3 .taken) (answered .1),
+    )
 
 -- src/lib.rt:119:21
 sub-answer-frame : tie.Need-sub-answer-frame
@@ -127,10 +130,11 @@ returns-4 c =
     let said = saidNow (answered .answer-frame .result) (left .1 .1 .0) (left .0) (left .1 .0) in
     let tested = answered .before .before .before .before .before .before in
     let whole = tested .before .before .before in
-    let start = whole .before .before .before .before .before .before .before in
-    (answered .answer-frame .ensures .0,
-    line-frame _ (start .args .line) (start .args .bytes .now) _ _ _ said (whole .before .if1 .left) (whole .if2 .left)
-    _ (tested .before .is-reset .ensures) (tested .if3 .left) (answered .answer-frame .ensures .1))
+    let start = whole .before .before .before .before .before .before .before in (
+      answered .answer-frame .ensures .0,
+      line-frame _ (start .args .line) (start .args .bytes .now) _ _ _ said (whole .before .if1 .left) (whole .if2 .left)
+          _ (tested .before .is-reset .ensures) (tested .if3 .left) (answered .answer-frame .ensures .1),
+    )
 
 pub answer-line-spec : {M : Type 1} → statement M
 answer-line-spec =
