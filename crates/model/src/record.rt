@@ -1,4 +1,5 @@
 // The controller's record, and what a call answers.
+#[repr(C)]
 pub struct Drive {
     pub sense: [u8; 4],
     // in force where known
@@ -7,11 +8,13 @@ pub struct Drive {
     pub pending: bool,
 }
 
+#[repr(C)]
 pub struct Controller {
     pub buffer: [u8; 512],
     pub drives: [Drive; 4],
 }
 
+#[repr(C)]
 pub struct Answer {
     pub number: u8,
     pub status: u8,

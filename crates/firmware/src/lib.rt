@@ -1,0 +1,46 @@
+// The firmware's form of the calls: it lends the controller's record and has it changed there. Thin calls over the engine,
+// which takes the record by value, for C and Rust to link.
+use engine::reset::fresh;
+use engine::reset::reset;
+use engine::run::execute;
+use model::record::Answer;
+use model::record::Controller;
+ghost use mathlib.Core.Path.{_≡_};
+ghost use Rattle.model.specs.Engine.{Executed, fresh, resetOf};
+ghost use Rattle.engine.specs.Runs.{resultNow};
+
+// A command: any record, block, given data, data area and images.
+#[no_mangle]
+pub extern "C" fn lanthewg_execute(
+    c: &mut Controller,
+    block: &[u8],
+    given: &[u8],
+    area: &mut [u8],
+    image0: &mut [u8],
+    image1: &mut [u8],
+) -> Answer
+    ensures { λ r. ⌜ Executed (now (c .entry)) (now (block .entry)) (now (given .entry)) (now (area .entry)) (now (image0 .entry)) (now (image1 .entry))
+        (resultNow (record { controller = now (c .exit); answer = r }) (now (area .exit)) (now (image0 .exit)) (now (image1 .exit))) ⌝ }
+{
+    let o = execute(*c, block, given, area, image0, image1);
+    *c = o.controller;
+    o.answer
+}
+
+// Reset answers zeros.
+#[no_mangle]
+pub extern "C" fn lanthewg_reset(c: &mut Controller, image0: &[u8], image1: &[u8]) -> Answer
+    ensures { λ r. ⌜ record { controller = now (c .exit); answer = r } ≡ resetOf (now (image0 .entry)) (now (image1 .entry)) ⌝ }
+{
+    let o = reset(image0, image1);
+    *c = o.controller;
+    o.answer
+}
+
+// A fresh controller: as it is after Reset.
+#[no_mangle]
+pub extern "C" fn lanthewg_fresh(c: &mut Controller, image0: &[u8], image1: &[u8])
+    ensures { λ _. ⌜ now (c .exit) ≡ fresh (now (image0 .entry)) (now (image1 .entry)) ⌝ }
+{
+    *c = fresh(image0, image1);
+}

@@ -1,0 +1,7 @@
+pub mod Kit
+pub mod Locals
+pub mod Places
+pub mod Records
+pub mod Passed
+pub mod Callee
+pub mod Lend

@@ -1,0 +1,1 @@
+// No functions: what proofs by hand share stands in proofs/.

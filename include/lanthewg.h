@@ -1,0 +1,61 @@
+/* The disk engine of a fitting console's controller card, for firmware in C. Link libfirmware.a.
+ *
+ * Each call is proved for any record, block, data and images, of any bytes and any lengths. The caller's duty is that each
+ * pointer leads to as many bytes as its length says (a length of 0 needs a pointer that is not null), that what a call may
+ * change (the record, the data area, the images of lanthewg_execute) overlaps nothing else that the call is lent, and that
+ * the two flags of a drive are 0 or 1. */
+#ifndef LANTHEWG_H
+#define LANTHEWG_H
+
+#include <stdbool.h>
+#include <stddef.h>
+#include <stdint.h>
+
+#ifdef __cplusplus
+extern "C" {
+#endif
+
+/* What the card keeps of a drive. Its configuration is in force where it is known. */
+typedef struct {
+    uint8_t sense[4];
+    uint8_t config[10];
+    bool known;
+    bool pending;
+} lanthewg_drive;
+
+typedef struct {
+    uint8_t buffer[512];
+    lanthewg_drive drives[4];
+} lanthewg_controller;
+
+/* Number 0: the command was taken, and status has 2 + 32 x drive after a failure, 32 x drive otherwise. Numbers 1 to 3 refuse
+ * it: a block that is not six bytes, data given too short, data area too short; then nothing is changed. */
+typedef struct {
+    uint8_t number;
+    uint8_t status;
+    uint8_t message;
+    uint16_t sectors; /* done */
+    uint32_t bytes;   /* handed over, at the front of the data area */
+} lanthewg_answer;
+
+/* Makes a fresh controller for two images: a valid label comes into force. An image under 16 bytes is an absent drive. */
+void lanthewg_fresh(lanthewg_controller *controller,
+                    const uint8_t *image0, size_t image0_length,
+                    const uint8_t *image1, size_t image1_length);
+
+lanthewg_answer lanthewg_reset(lanthewg_controller *controller,
+                               const uint8_t *image0, size_t image0_length,
+                               const uint8_t *image1, size_t image1_length);
+
+lanthewg_answer lanthewg_execute(lanthewg_controller *controller,
+                                 const uint8_t *block, size_t block_length,
+                                 const uint8_t *given, size_t given_length,
+                                 uint8_t *area, size_t area_length,
+                                 uint8_t *image0, size_t image0_length,
+                                 uint8_t *image1, size_t image1_length);
+
+#ifdef __cplusplus
+}
+#endif
+
+#endif
