@@ -1,0 +1,337 @@
+//! Whether one call's outcome is one that document 01 allows, on any images and any controller
+//! record. The outcome that the document fixes is built and compared byte for byte; only the slot
+//! of each sector of a Read or Write is taken, among the matching ones, as the engine took it.
+
+use std::ops::Range;
+
+use crate::engine::Call;
+use crate::paper::{self, Condition, Fault, Geometry, Request, Stop, View};
+use crate::plain::{Answer, Controller};
+
+/// A slot's data, as a part of its image.
+type Place = Range<usize>;
+
+/// Everything that a call may look at or change.
+#[derive(Clone, Debug, PartialEq, Eq)]
+pub struct Setting {
+    pub controller: Controller,
+    pub area: Vec<u8>,
+    pub images: [Vec<u8>; 2],
+}
+
+/// Ok if `call` may turn `before` into `after` and return `answer`.
+pub fn check(
+    before: &Setting,
+    call: &Call,
+    answer: &Answer,
+    after: &Setting,
+) -> Result<(), String> {
+    same_lengths(before, after)?;
+    let mut expected = Expected {
+        answer: Answer::default(),
+        setting: before.clone(),
+        before,
+        after,
+        notes: String::new(),
+    };
+    match call {
+        Call::Reset => expected.reset(),
+        Call::Execute { block, given } => expected.execute(block, given),
+    }
+    expected.compare(answer).map_err(|what| format!("{what}{}", expected.notes))
+}
+
+fn same_lengths(before: &Setting, after: &Setting) -> Result<(), String> {
+    let lengths =
+        |setting: &Setting| [setting.area.len(), setting.images[0].len(), setting.images[1].len()];
+    if lengths(before) == lengths(after) {
+        Ok(())
+    } else {
+        Err("lengths of area or images changed".to_string())
+    }
+}
+
+/// The outcome that the document fixes, as it is built.
+struct Expected<'a> {
+    answer: Answer,
+    setting: Setting,
+    before: &'a Setting,
+    /// The outcome under judgement: looked at for the free choice of slots and for what a drive
+    /// without parameters keeps in its record, and for nothing else.
+    after: &'a Setting,
+    notes: String,
+}
+
+impl Expected<'_> {
+    fn reset(&mut self) {
+        self.setting.controller.buffer = [0; 512];
+        for drive in 0..4 {
+            let label = self.setting.images.get(drive).and_then(|image| paper::label(image));
+            let record = &mut self.setting.controller.drives[drive];
+            record.sense = [0; 4];
+            record.known = label.is_some();
+            match label {
+                Some(config) => (record.config, record.pending) = (config, false),
+                // The document says nothing of a configuration that is not in force.
+                None => {
+                    let left = &self.after.controller.drives[drive];
+                    (record.config, record.pending) = (left.config, left.pending);
+                }
+            }
+        }
+    }
+
+    fn execute(&mut self, block: &[u8], given: &[u8]) {
+        let area = self.setting.area.len();
+        let admitted = paper::admit(block, given.len(), area, |drive| self.view(drive));
+        let (drive, ended) = match admitted {
+            Err(Stop::Number(number)) => {
+                self.answer.number = number;
+                return;
+            }
+            Err(Stop::Fault(drive, fault)) => (drive, Err(fault)),
+            Ok(request) if request.opcode == 0x03 => {
+                self.answer.status = 32 * request.drive as u8;
+                let sense = self.setting.controller.drives[request.drive].sense;
+                self.hand_over(&sense);
+                return;
+            }
+            Ok(request) => (request.drive, self.perform(&request, given)),
+        };
+        self.answer.status = 32 * drive as u8 + if ended.is_err() { 2 } else { 0 };
+        let fault = ended.err().unwrap_or(Fault { code: 0, address: 0 });
+        self.setting.controller.drives[drive].sense = paper::sense(drive, fault);
+    }
+
+    fn view(&self, drive: usize) -> View {
+        let length = self.setting.images.get(drive).map_or(0, Vec::len);
+        let record = &self.setting.controller.drives[drive];
+        let geometry = Geometry::read(&record.config, length).filter(|_| record.known);
+        View { present: length >= paper::LABEL, geometry, pending: record.pending }
+    }
+
+    fn hand_over(&mut self, bytes: &[u8]) {
+        let from = self.answer.bytes as usize;
+        self.setting.area[from..from + bytes.len()].copy_from_slice(bytes);
+        self.answer.bytes += bytes.len() as u32;
+    }
+
+    fn leave_in_buffer(&mut self, bytes: &[u8]) {
+        self.setting.controller.buffer[..bytes.len()].copy_from_slice(bytes);
+    }
+
+    fn perform(&mut self, request: &Request, given: &[u8]) -> Result<(), Fault> {
+        match request.opcode {
+            0x0F => self.leave_in_buffer(&given[..512]),
+            0x10 => self.hand_over(&self.setting.controller.buffer.clone()),
+            0x11 => self.initialize(request, given)?,
+            _ => self.perform_on_drive(request, given)?,
+        }
+        Ok(())
+    }
+
+    fn perform_on_drive(&mut self, request: &Request, given: &[u8]) -> Result<(), Fault> {
+        let geometry = self.view(request.drive).geometry.expect("admitted with parameters");
+        match request.opcode {
+            0x04 => self.format_drive(request, &geometry),
+            0x05 => self.check_track(request, &geometry),
+            0x06 => self.format_track(request, &geometry, 0),
+            0x07 => self.format_track(request, &geometry, 1),
+            0x08 => self.read(request, &geometry),
+            0x0A => self.write(request, &geometry, given),
+            0x0E => self.assign(request, &geometry, given),
+            _ => Ok(()),
+        }
+    }
+
+    fn image(&self, request: &Request) -> &[u8] {
+        &self.setting.images[request.drive]
+    }
+
+    fn condition(&self, request: &Request, geometry: &Geometry, track: u32) -> Condition {
+        paper::condition(self.image(request), geometry, track)
+    }
+
+    fn initialize(&mut self, request: &Request, given: &[u8]) -> Result<(), Fault> {
+        let config = given[..10].try_into().expect("ten bytes");
+        if Geometry::read(&config, self.image(request).len()).is_none() {
+            return Err(request.fault(0x22));
+        }
+        let record = &mut self.setting.controller.drives[request.drive];
+        (record.config, record.known, record.pending) = (config, true, true);
+        Ok(())
+    }
+
+    /// The fill that control bit 5 decides.
+    fn fill(&self, request: &Request, geometry: &Geometry) -> Vec<u8> {
+        if request.from_buffer {
+            self.setting.controller.buffer[..geometry.data].to_vec()
+        } else {
+            vec![0x6C; geometry.data]
+        }
+    }
+
+    /// Formats one track with the block's interleave.
+    fn format(
+        &mut self,
+        request: &Request,
+        geometry: &Geometry,
+        track: u32,
+        (flag, partner): (u8, u32),
+        fill: &[u8],
+    ) {
+        let image = &mut self.setting.images[request.drive];
+        let sectors = paper::sectors_of_slots(geometry.sectors, request.interleave);
+        for (slot, sector) in (0..).zip(sectors) {
+            let place = &mut image[geometry.slot(track, slot)];
+            place[..8].copy_from_slice(&geometry.id(track, sector, flag, partner));
+            place[8..].copy_from_slice(fill);
+        }
+    }
+
+    fn format_drive(&mut self, request: &Request, geometry: &Geometry) -> Result<(), Fault> {
+        let condition = |track| self.condition(request, geometry, track);
+        paper::check_format_drive(request, geometry, condition)?;
+        let fill = self.fill(request, geometry);
+        let (start, _) = geometry.split(request.address);
+        for track in start..geometry.tracks() {
+            self.format(request, geometry, track, (0, 0), &fill);
+        }
+        let record = &mut self.setting.controller.drives[request.drive];
+        let image = &mut self.setting.images[request.drive];
+        image[..10].copy_from_slice(&record.config);
+        image[10..16].copy_from_slice(&[0; 6]);
+        record.pending = false;
+        Ok(())
+    }
+
+    fn format_track(
+        &mut self,
+        request: &Request,
+        geometry: &Geometry,
+        flag: u8,
+    ) -> Result<(), Fault> {
+        let (track, _) = geometry.split(request.address);
+        paper::check_block_track(request, self.condition(request, geometry, track))?;
+        let fill = self.fill(request, geometry);
+        self.format(request, geometry, track, (flag, 0), &fill);
+        Ok(())
+    }
+
+    fn assign(
+        &mut self,
+        request: &Request,
+        geometry: &Geometry,
+        given: &[u8],
+    ) -> Result<(), Fault> {
+        let condition = |track| self.condition(request, geometry, track);
+        let (a, b) = paper::check_assign(request, geometry, given, condition)?;
+        let fill = self.fill(request, geometry);
+        self.format(request, geometry, a, (2, b), &vec![0x6C; geometry.data]);
+        self.format(request, geometry, b, (3, a), &fill);
+        Ok(())
+    }
+
+    fn check_track(&self, request: &Request, geometry: &Geometry) -> Result<(), Fault> {
+        let image = self.image(request);
+        let (track, _) = geometry.split(request.address);
+        let searched =
+            paper::searched_track(image, geometry, track).map_err(|code| request.fault(code))?;
+        let (flag, partner) = if searched == track { (0, 0) } else { (3, track) };
+        let sectors = paper::sectors_of_slots(geometry.sectors, request.interleave);
+        for (slot, sector) in (0..).zip(sectors) {
+            let id = &image[geometry.slot(searched, slot)][..8];
+            if id != geometry.id(searched, sector, flag, partner) {
+                return Err(request.fault(0x1A));
+            }
+        }
+        Ok(())
+    }
+
+    /// The matching slots of the transfer's sector `k`. A transfer changes no ID, and no sector's
+    /// slot is another's, so the image before it serves for all of its sectors.
+    fn slots(&self, request: &Request, geometry: &Geometry, k: u32) -> Result<Vec<Place>, Fault> {
+        let address = request.address + k;
+        let (track, sector) = geometry.split(address);
+        let image = &self.before.images[request.drive];
+        paper::matching_slots(image, geometry, track, sector)
+            .map_err(|code| Fault { code, address })
+    }
+
+    /// The first slot that fits the outcome; where none does, the first, whose bytes will then be
+    /// found to differ.
+    fn choose(&mut self, k: u32, slots: &[Place], fits: impl Fn(&Place) -> bool) -> Place {
+        let chosen = slots.iter().find(|&slot| fits(slot));
+        if chosen.is_none() {
+            let note = format!("; sector {k} fits none of its {} matching slots", slots.len());
+            self.notes.push_str(&note);
+        }
+        chosen.unwrap_or(&slots[0]).clone()
+    }
+
+    fn read(&mut self, request: &Request, geometry: &Geometry) -> Result<(), Fault> {
+        let image = &self.before.images[request.drive];
+        for k in 0..request.count {
+            let slots = self.slots(request, geometry, k)?;
+            let handed = &self.after.area[k as usize * geometry.data..][..geometry.data];
+            let slot = self.choose(k, &slots, |slot| &image[slot.clone()] == handed);
+            self.hand_over(&image[slot.clone()]);
+            self.leave_in_buffer(&image[slot]);
+            self.answer.sectors += 1;
+        }
+        Ok(())
+    }
+
+    fn write(&mut self, request: &Request, geometry: &Geometry, given: &[u8]) -> Result<(), Fault> {
+        let before = &self.before.images[request.drive];
+        let after = &self.after.images[request.drive];
+        for k in 0..request.count {
+            let slots = self.slots(request, geometry, k)?;
+            let bytes = &given[k as usize * geometry.data..][..geometry.data];
+            let slot = self.choose(k, &slots, |chosen| {
+                slots.iter().all(|slot| {
+                    let wanted = if slot == chosen { bytes } else { &before[slot.clone()] };
+                    &after[slot.clone()] == wanted
+                })
+            });
+            self.setting.images[request.drive][slot].copy_from_slice(bytes);
+            self.leave_in_buffer(bytes);
+            self.answer.sectors += 1;
+        }
+        Ok(())
+    }
+
+    fn compare(&self, answer: &Answer) -> Result<(), String> {
+        same("answer", &self.answer, answer)?;
+        let (expected, after) = (&self.setting.controller, &self.after.controller);
+        same_bytes("buffer", &expected.buffer, &after.buffer)?;
+        for drive in 0..4 {
+            let (expected, after) = (&expected.drives[drive], &after.drives[drive]);
+            same(&format!("drive {drive} record"), expected, after)?;
+        }
+        same_bytes("area", &self.setting.area, &self.after.area)?;
+        for drive in 0..2 {
+            let name = format!("image {drive}");
+            same_bytes(&name, &self.setting.images[drive], &self.after.images[drive])?;
+        }
+        Ok(())
+    }
+}
+
+fn same<T: PartialEq + std::fmt::Debug>(name: &str, expected: &T, found: &T) -> Result<(), String> {
+    if expected == found {
+        Ok(())
+    } else {
+        Err(format!("{name}: expected {expected:02X?}, found {found:02X?}"))
+    }
+}
+
+fn same_bytes(name: &str, expected: &[u8], found: &[u8]) -> Result<(), String> {
+    if expected == found {
+        return Ok(());
+    }
+    let differs = |(e, f): (&u8, &u8)| e != f;
+    let at = expected.iter().zip(found).position(differs).expect("equal lengths that differ");
+    let (e, f) = (expected[at], found[at]);
+    Err(format!("{name}, byte {at}: expected {e:02X}h, found {f:02X}h"))
+}

@@ -1,0 +1,17 @@
+//! Document 01's disk controller engine in plain Rust, and the means to compare any engine with the
+//! document: written from the document and its settled readings alone.
+//!
+//! - [`plain`]: the engine on images.
+//! - [`machine`], [`legal`]: the judges, on the terms of [`paper`], which `plain` does not use, so
+//!   that a slip in one is not repeated in the other.
+//! - [`random`], [`compare`], [`examples`]: what is tried, for any [`engine::Engine`].
+
+pub mod compare;
+pub mod engine;
+pub mod examples;
+pub mod legal;
+pub mod machine;
+pub mod paper;
+pub mod plain;
+pub mod proved;
+pub mod random;

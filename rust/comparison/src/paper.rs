@@ -1,0 +1,400 @@
+//! Document 01's terms for the judges: parameters, slots, finding and the order of checks, put as
+//! the document puts them and without regard to speed. `plain` uses none of this.
+
+use std::ops::Range;
+
+pub type Config = [u8; 10];
+
+pub const LABEL: usize = 16;
+pub const ID: usize = 8;
+
+/// A valid configuration's numbers.
+#[derive(Clone, Copy, Debug, PartialEq, Eq)]
+pub struct Geometry {
+    pub cylinders: u32,
+    pub heads: u32,
+    /// n
+    pub sectors: u32,
+    /// D
+    pub data: usize,
+}
+
+impl Geometry {
+    /// The configuration's numbers if it is valid with an image of this length.
+    pub fn read(config: &Config, image_length: usize) -> Option<Geometry> {
+        let cylinders = u32::from(config[0]) * 256 + u32::from(config[1]);
+        let heads = u32::from(config[2]);
+        let step = config[3] / 16;
+        let low_bits = config[3] % 16;
+        if !(1..=1024).contains(&cylinders) || !(1..=7).contains(&heads) {
+            return None;
+        }
+        if step > 4 || (low_bits != 0 && low_bits != 1) || config[9] > 11 {
+            return None;
+        }
+        let (sectors, data) = match config[4] {
+            1 => (32, 256),
+            2 => (17, 512),
+            _ => return None,
+        };
+        let geometry = Geometry { cylinders, heads, sectors, data };
+        if image_length < geometry.image_length() {
+            return None;
+        }
+        Some(geometry)
+    }
+
+    pub fn tracks(&self) -> u32 {
+        self.cylinders * self.heads
+    }
+
+    pub fn addresses(&self) -> u32 {
+        self.tracks() * self.sectors
+    }
+
+    pub fn slot_size(&self) -> usize {
+        ID + self.data
+    }
+
+    pub fn image_length(&self) -> usize {
+        LABEL + self.addresses() as usize * self.slot_size()
+    }
+
+    /// Track and sector of an address.
+    pub fn split(&self, address: u32) -> (u32, u32) {
+        (address / self.sectors, address % self.sectors)
+    }
+
+    /// The slot's place in the image.
+    pub fn slot(&self, track: u32, slot: u32) -> Range<usize> {
+        let start = LABEL + (track * self.sectors + slot) as usize * self.slot_size();
+        start..start + self.slot_size()
+    }
+
+    /// The slot's data in the image.
+    pub fn slot_data(&self, track: u32, slot: u32) -> Range<usize> {
+        let whole = self.slot(track, slot);
+        whole.start + ID..whole.end
+    }
+
+    /// The ID bytes that a format writes.
+    pub fn id(&self, track: u32, sector: u32, flag: u8, partner: u32) -> [u8; ID] {
+        let cylinder = track / self.heads;
+        let head = track % self.heads;
+        [
+            0xA1,
+            (cylinder / 256) as u8,
+            (cylinder % 256) as u8,
+            head as u8,
+            sector as u8,
+            flag,
+            (partner / 256) as u8,
+            (partner % 256) as u8,
+        ]
+    }
+}
+
+/// The configuration of a valid label.
+pub fn label(image: &[u8]) -> Option<Config> {
+    if image.len() < LABEL {
+        return None;
+    }
+    let config: Config = image[..10].try_into().ok()?;
+    let zeros = image[10..16] == [0; 6];
+    (zeros && Geometry::read(&config, image.len()).is_some()).then_some(config)
+}
+
+/// The sector in each slot of a track of `n` with interleave `f`.
+pub fn sectors_of_slots(n: u32, f: u32) -> Vec<u32> {
+    let mut slots: Vec<Option<u32>> = vec![None; n as usize];
+    slots[0] = Some(0);
+    let mut previous = 0;
+    for sector in 1..n {
+        let from = (previous + f) % n;
+        let empty = (0..n).map(|up| (from + up) % n).find(|&slot| slots[slot as usize].is_none());
+        previous = empty.expect("n - sector slots are empty");
+        slots[previous as usize] = Some(sector);
+    }
+    slots.into_iter().map(|sector| sector.expect("every slot has a sector")).collect()
+}
+
+/// A track as the format commands see it.
+#[derive(Clone, Copy, Debug, PartialEq, Eq)]
+pub enum Condition {
+    /// Sound, unformatted or damaged.
+    Free,
+    Bad,
+    Moved(u32),
+    Taken(u32),
+}
+
+/// The condition by slot 0.
+pub fn condition(image: &[u8], geometry: &Geometry, track: u32) -> Condition {
+    let slot = &image[geometry.slot(track, 0)];
+    if slot[..4] != geometry.id(track, 0, 0, 0)[..4] {
+        return Condition::Free;
+    }
+    let partner = partner(slot);
+    match slot[5] {
+        1 => Condition::Bad,
+        2 => Condition::Moved(partner),
+        3 => Condition::Taken(partner),
+        _ => Condition::Free,
+    }
+}
+
+fn partner(slot: &[u8]) -> u32 {
+    u32::from(slot[6]) * 256 + u32::from(slot[7])
+}
+
+/// Finding's part by slot 0: the track whose slots are searched, or the code.
+pub fn searched_track(image: &[u8], geometry: &Geometry, track: u32) -> Result<u32, u8> {
+    let slot = &image[geometry.slot(track, 0)];
+    if slot[0] != 0xA1 {
+        return Err(0x12);
+    }
+    if slot[1..4] != geometry.id(track, 0, 0, 0)[1..4] {
+        return Err(0x15);
+    }
+    match slot[5] {
+        0 => Ok(track),
+        1 => Err(0x19),
+        2 => {
+            let partner = partner(slot);
+            let is_track = partner < geometry.tracks();
+            if is_track && condition(image, geometry, partner) == Condition::Taken(track) {
+                Ok(partner)
+            } else {
+                Err(0x1E)
+            }
+        }
+        3 => Err(0x1C),
+        _ => Err(0x10),
+    }
+}
+
+/// The data places of every slot that finding may use.
+pub fn matching_slots(
+    image: &[u8],
+    geometry: &Geometry,
+    track: u32,
+    sector: u32,
+) -> Result<Vec<Range<usize>>, u8> {
+    let searched = searched_track(image, geometry, track)?;
+    let matches = |slot: &u32| {
+        let start = geometry.slot(searched, *slot).start;
+        image[start] == 0xA1 && u32::from(image[start + 4]) == sector
+    };
+    let slots = (0..geometry.sectors).filter(matches);
+    let places: Vec<_> = slots.map(|slot| geometry.slot_data(searched, slot)).collect();
+    if places.is_empty() {
+        Err(0x14)
+    } else {
+        Ok(places)
+    }
+}
+
+/// A code with the address that belongs to it if it gives one.
+#[derive(Clone, Copy, Debug, PartialEq, Eq)]
+pub struct Fault {
+    pub code: u8,
+    pub address: u32,
+}
+
+/// The sense that a fault leaves.
+pub fn sense(drive: usize, fault: Fault) -> [u8; 4] {
+    let drive_bits = 32 * drive as u8;
+    if matches!(fault.code, 0x21 | 0x10..=0x15 | 0x19..=0x1F) {
+        let [_, high, middle, low] = fault.address.to_be_bytes();
+        [fault.code + 0x80, drive_bits + high, middle, low]
+    } else {
+        [fault.code, drive_bits, 0, 0]
+    }
+}
+
+/// A drive as the order of checks sees it at a call.
+#[derive(Clone, Copy, Debug)]
+pub struct View {
+    pub present: bool,
+    pub geometry: Option<Geometry>,
+    pub pending: bool,
+}
+
+/// A block of six bytes.
+#[derive(Clone, Copy, Debug)]
+pub struct Request {
+    pub opcode: u8,
+    pub drive: usize,
+    pub address: u32,
+    pub interleave: u32,
+    pub count: u32,
+    /// Control bit 5.
+    pub from_buffer: bool,
+}
+
+impl Request {
+    fn read(block: &[u8]) -> Request {
+        Request {
+            opcode: block[0],
+            drive: usize::from(block[1] % 128 / 32),
+            address: u32::from_be_bytes([0, block[1] % 32, block[2], block[3]]),
+            interleave: u32::from(block[4]),
+            count: if block[4] == 0 { 256 } else { u32::from(block[4]) },
+            from_buffer: block[5] / 32 % 2 == 1,
+        }
+    }
+
+    /// A fault with the block's address.
+    pub fn fault(&self, code: u8) -> Fault {
+        Fault { code, address: self.address }
+    }
+
+    fn is_transfer(&self) -> bool {
+        self.opcode == 0x08 || self.opcode == 0x0A
+    }
+
+    fn taken(&self, data: usize) -> usize {
+        match self.opcode {
+            0x0A => self.count as usize * data,
+            0x0E => 3,
+            0x0F => 512,
+            0x11 => 10,
+            _ => 0,
+        }
+    }
+
+    fn handed_over(&self, data: usize) -> usize {
+        match self.opcode {
+            0x03 => 4,
+            0x08 => self.count as usize * data,
+            0x10 => 512,
+            _ => 0,
+        }
+    }
+}
+
+/// Why a command does not get to its own checks.
+#[derive(Clone, Copy, Debug, PartialEq, Eq)]
+pub enum Stop {
+    /// Numbers 1, 2 and 3.
+    Number(u8),
+    /// A code, for the drive named.
+    Fault(usize, Fault),
+}
+
+/// The order of checks up to numbers 2 and 3.
+pub fn admit(
+    block: &[u8],
+    given: usize,
+    area: usize,
+    view: impl Fn(usize) -> View,
+) -> Result<Request, Stop> {
+    if block.len() != 6 {
+        return Err(Stop::Number(1));
+    }
+    let request = Request::read(block);
+    let view = view(request.drive);
+    if let Some(code) = first_code(block, &request, &view) {
+        return Err(Stop::Fault(request.drive, request.fault(code)));
+    }
+    let data = view.geometry.map_or(0, |geometry| geometry.data);
+    if given < request.taken(data) {
+        return Err(Stop::Number(2));
+    }
+    if area < request.handed_over(data) {
+        return Err(Stop::Number(3));
+    }
+    Ok(request)
+}
+
+/// The first code of the order of checks that arises before the command's own.
+fn first_code(block: &[u8], request: &Request, view: &View) -> Option<u8> {
+    let opcode = request.opcode;
+    if !matches!(opcode, 0x00 | 0x01 | 0x03..=0x08 | 0x0A | 0x0B | 0x0E..=0x11) {
+        return Some(0x20);
+    }
+    let by_address = matches!(opcode, 0x04..=0x0B | 0x0E);
+    let bit_5_named = matches!(opcode, 0x04 | 0x06 | 0x0E);
+    let undefined = block[5] & if bit_5_named { 0b0101_1111 } else { 0b0111_1111 };
+    if block[1] >= 0x80 || (by_address && undefined != 0) {
+        return Some(0x22);
+    }
+    if matches!(opcode, 0x03 | 0x0F | 0x10) {
+        return None;
+    }
+    if !view.present {
+        return Some(0x04);
+    }
+    if opcode == 0x11 {
+        return None;
+    }
+    let Some(geometry) = view.geometry else {
+        return Some(0x0A);
+    };
+    let with_interleave = matches!(opcode, 0x04..=0x07 | 0x0E);
+    if with_interleave && (request.interleave < 1 || request.interleave > geometry.sectors - 1) {
+        return Some(0x22);
+    }
+    let more = if request.is_transfer() { request.count - 1 } else { 0 };
+    if by_address && request.address + more >= geometry.addresses() {
+        return Some(0x21);
+    }
+    let whole_format = opcode == 0x04 && geometry.split(request.address).0 == 0;
+    let spared = opcode == 0x00 || opcode == 0x01 || whole_format;
+    (view.pending && !spared).then_some(0x16)
+}
+
+/// Format Drive's own check, by the conditions of all tracks.
+pub fn check_format_drive(
+    request: &Request,
+    geometry: &Geometry,
+    condition: impl Fn(u32) -> Condition,
+) -> Result<(), Fault> {
+    let (start, _) = geometry.split(request.address);
+    for track in 0..geometry.tracks() {
+        if let Condition::Moved(partner) | Condition::Taken(partner) = condition(track) {
+            let below = [track, partner].iter().filter(|&&number| number < start).count();
+            if below == 1 {
+                return Err(request.fault(0x1D));
+            }
+        }
+    }
+    Ok(())
+}
+
+/// The own check of Format Track, Format Bad Track and of A in an assignment.
+pub fn check_block_track(request: &Request, condition: Condition) -> Result<(), Fault> {
+    match condition {
+        Condition::Moved(_) => Err(request.fault(0x1D)),
+        Condition::Taken(_) => Err(request.fault(0x1C)),
+        Condition::Free | Condition::Bad => Ok(()),
+    }
+}
+
+/// Assign Alternate's own checks: the tracks A and B.
+pub fn check_assign(
+    request: &Request,
+    geometry: &Geometry,
+    given: &[u8],
+    condition: impl Fn(u32) -> Condition,
+) -> Result<(u32, u32), Fault> {
+    if given[0] > 0x1F {
+        return Err(request.fault(0x22));
+    }
+    let address = u32::from_be_bytes([0, given[0], given[1], given[2]]);
+    let fault_of_b = |code| Err(Fault { code, address });
+    if address >= geometry.addresses() {
+        return fault_of_b(0x21);
+    }
+    let (a, _) = geometry.split(request.address);
+    let (b, _) = geometry.split(address);
+    check_block_track(request, condition(a))?;
+    if b == a {
+        return Err(request.fault(0x22));
+    }
+    match condition(b) {
+        Condition::Taken(_) => fault_of_b(0x1D),
+        Condition::Moved(_) | Condition::Bad => fault_of_b(0x1F),
+        Condition::Free => Ok((a, b)),
+    }
+}

@@ -1,0 +1,675 @@
+//! A plain engine on images: one pass over the bytes that a command needs, nothing kept between
+//! calls but the controller record. Among duplicate slots the first is used.
+
+#![forbid(unsafe_code)]
+
+use std::ops::Range;
+
+const LABEL: usize = 16;
+const CONFIG: usize = 10;
+const BUFFER: usize = 512;
+const ID: usize = 8;
+const MARK: u8 = 0xA1;
+const MOST_SECTORS: usize = 32;
+const NO_SLOT: u8 = 0xFF;
+const NO_SECTOR: u8 = 0xFF;
+const FORMAT_FILL: [u8; BUFFER] = [0x6C; BUFFER];
+
+mod opcode {
+    pub const TEST_READY: u8 = 0x00;
+    pub const RECALIBRATE: u8 = 0x01;
+    pub const REQUEST_SENSE: u8 = 0x03;
+    pub const FORMAT_DRIVE: u8 = 0x04;
+    pub const CHECK_TRACK: u8 = 0x05;
+    pub const FORMAT_TRACK: u8 = 0x06;
+    pub const FORMAT_BAD_TRACK: u8 = 0x07;
+    pub const READ: u8 = 0x08;
+    pub const WRITE: u8 = 0x0A;
+    pub const SEEK: u8 = 0x0B;
+    pub const ASSIGN_ALTERNATE: u8 = 0x0E;
+    pub const WRITE_BUFFER: u8 = 0x0F;
+    pub const READ_BUFFER: u8 = 0x10;
+    pub const INITIALIZE: u8 = 0x11;
+}
+
+mod flag {
+    pub const SOUND: u8 = 0;
+    pub const BAD: u8 = 1;
+    pub const MOVED: u8 = 2;
+    pub const TAKEN: u8 = 3;
+}
+
+/// What a call returns.
+#[derive(Clone, Copy, Debug, Default, PartialEq, Eq)]
+pub struct Answer {
+    pub number: u8,
+    pub status: u8,
+    pub message: u8,
+    pub sectors: u16,
+    pub bytes: u32,
+}
+
+/// One drive's part of the controller record.
+#[derive(Clone, Copy, Debug, Default, PartialEq, Eq)]
+pub struct Drive {
+    pub sense: [u8; 4],
+    pub config: [u8; CONFIG],
+    /// Whether `config` is in force; where not, `config` and `pending` mean nothing.
+    pub known: bool,
+    pub pending: bool,
+}
+
+/// The controller record. Any record may be used.
+#[derive(Clone, Debug, PartialEq, Eq)]
+pub struct Controller {
+    pub buffer: [u8; BUFFER],
+    pub drives: [Drive; 4],
+}
+
+/// Why a command ended early.
+enum Stop {
+    /// Numbers 2 and 3: nothing changes.
+    Refused(u8),
+    /// A sense code, with the address where it gives one.
+    Fault { code: u8, address: Option<usize> },
+}
+
+type Run = Result<(), Stop>;
+
+const fn fault(code: u8) -> Stop {
+    Stop::Fault { code, address: None }
+}
+
+const fn fault_at(code: u8, address: usize) -> Stop {
+    Stop::Fault { code, address: Some(address) }
+}
+
+/// A block of six bytes, taken apart.
+struct Block {
+    opcode: u8,
+    unused_bit: bool,
+    drive: usize,
+    address: usize,
+    /// Interleave or count.
+    fifth: usize,
+    control: u8,
+}
+
+impl Block {
+    fn decode(bytes: &[u8; 6]) -> Block {
+        Block {
+            opcode: bytes[0],
+            unused_bit: bytes[1] & 0x80 != 0,
+            drive: usize::from(bytes[1] >> 5 & 3),
+            address: address_of(&[bytes[1] & 0x1F, bytes[2], bytes[3]]),
+            fifth: usize::from(bytes[4]),
+            control: bytes[5],
+        }
+    }
+
+    fn count(&self) -> usize {
+        if self.fifth == 0 {
+            256
+        } else {
+            self.fifth
+        }
+    }
+
+    /// The control bits that this command does not define; none for an unknown opcode.
+    fn undefined_control(&self) -> Option<u8> {
+        use opcode::*;
+        match self.opcode {
+            FORMAT_DRIVE | FORMAT_TRACK | ASSIGN_ALTERNATE => Some(!0xA0),
+            CHECK_TRACK | FORMAT_BAD_TRACK | READ | WRITE | SEEK => Some(!0x80),
+            TEST_READY | RECALIBRATE | REQUEST_SENSE => Some(0),
+            WRITE_BUFFER | READ_BUFFER | INITIALIZE => Some(0),
+            _ => None,
+        }
+    }
+
+    fn has_interleave(&self) -> bool {
+        use opcode::*;
+        matches!(
+            self.opcode,
+            FORMAT_DRIVE | CHECK_TRACK | FORMAT_TRACK | FORMAT_BAD_TRACK | ASSIGN_ALTERNATE
+        )
+    }
+
+    /// The last address that the command uses, where it checks addresses.
+    fn last_address(&self) -> Option<usize> {
+        use opcode::*;
+        match self.opcode {
+            TEST_READY | RECALIBRATE => None,
+            READ | WRITE => Some(self.address + self.count() - 1),
+            _ => Some(self.address),
+        }
+    }
+
+    /// Whether the command runs while the parameters are pending.
+    fn runs_pending(&self, geometry: Geometry) -> bool {
+        use opcode::*;
+        match self.opcode {
+            TEST_READY | RECALIBRATE => true,
+            FORMAT_DRIVE => geometry.track(self.address) == 0,
+            _ => false,
+        }
+    }
+}
+
+fn address_of(bytes: &[u8; 3]) -> usize {
+    usize::from(bytes[0]) << 16 | usize::from(bytes[1]) << 8 | usize::from(bytes[2])
+}
+
+/// A valid configuration's numbers.
+#[derive(Clone, Copy)]
+struct Geometry {
+    tracks: usize,
+    heads: usize,
+    sectors: usize,
+    data: usize,
+}
+
+impl Geometry {
+    /// None where the configuration is not valid with an image of this length.
+    fn of(config: &[u8; CONFIG], image_length: usize) -> Option<Geometry> {
+        let cylinders = usize::from(u16::from_be_bytes([config[0], config[1]]));
+        let heads = usize::from(config[2]);
+        let (sectors, data) = match config[4] {
+            1 => (32, 256),
+            2 => (17, 512),
+            _ => return None,
+        };
+        let geometry = Geometry { tracks: cylinders * heads, heads, sectors, data };
+        let valid = (1..=1024).contains(&cylinders)
+            && (1..=7).contains(&heads)
+            && config[3] >> 4 <= 4
+            && config[3] & 0x0E == 0
+            && config[9] <= 11
+            && image_length >= geometry.stretch(geometry.tracks).start;
+        valid.then_some(geometry)
+    }
+
+    fn addresses(self) -> usize {
+        self.tracks * self.sectors
+    }
+
+    fn track(self, address: usize) -> usize {
+        address / self.sectors
+    }
+
+    fn slot_size(self) -> usize {
+        ID + self.data
+    }
+
+    /// The track's own part of the image.
+    fn stretch(self, track: usize) -> Range<usize> {
+        let size = self.sectors * self.slot_size();
+        let start = LABEL + track * size;
+        start..start + size
+    }
+
+    /// The first four ID bytes of every slot of a track.
+    fn own(self, track: usize) -> [u8; 4] {
+        let [high, low] = ((track / self.heads) as u16).to_be_bytes();
+        [MARK, high, low, (track % self.heads) as u8]
+    }
+
+    /// The ID of the track's slot 0.
+    fn first_id(self, image: &[u8], track: usize) -> Id {
+        Id::at(image, self.stretch(track).start)
+    }
+
+    /// The flag and partner by which the format commands judge a track: none where slot 0 is not
+    /// the track's own.
+    fn judged(self, image: &[u8], track: usize) -> Option<(u8, usize)> {
+        let id = self.first_id(image, track);
+        (id.own() == self.own(track)).then_some((id.flag(), id.partner()))
+    }
+
+    /// The track on which a track's sectors are: itself, or its partner where it is moved.
+    fn home(self, image: &[u8], track: usize) -> Result<usize, u8> {
+        let id = self.first_id(image, track);
+        let own = self.own(track);
+        if id.own() != own {
+            return Err(if id.own()[0] == MARK { 0x15 } else { 0x12 });
+        }
+        match id.flag() {
+            flag::SOUND => Ok(track),
+            flag::BAD => Err(0x19),
+            flag::TAKEN => Err(0x1C),
+            flag::MOVED => {
+                let partner = id.partner();
+                let answers = partner < self.tracks
+                    && self.judged(image, partner) == Some((flag::TAKEN, track));
+                answers.then_some(partner).ok_or(0x1E)
+            }
+            _ => Err(0x10),
+        }
+    }
+}
+
+/// A slot's 8 ID bytes.
+#[derive(Clone, Copy, PartialEq, Eq)]
+struct Id([u8; ID]);
+
+impl Id {
+    fn new(own: [u8; 4], sector: u8, flag: u8, partner: usize) -> Id {
+        let [high, low] = (partner as u16).to_be_bytes();
+        Id([own[0], own[1], own[2], own[3], sector, flag, high, low])
+    }
+
+    fn at(image: &[u8], start: usize) -> Id {
+        let mut bytes = [0; ID];
+        bytes.copy_from_slice(&image[start..start + ID]);
+        Id(bytes)
+    }
+
+    fn own(self) -> [u8; 4] {
+        [self.0[0], self.0[1], self.0[2], self.0[3]]
+    }
+
+    fn flag(self) -> u8 {
+        self.0[5]
+    }
+
+    fn partner(self) -> usize {
+        usize::from(u16::from_be_bytes([self.0[6], self.0[7]]))
+    }
+}
+
+/// Which slot of a track has which sector, found out as far as it was asked for: a transfer looks
+/// at each slot's ID at most once.
+struct SlotIndex {
+    first: [u8; MOST_SECTORS],
+    looked_at: usize,
+}
+
+impl SlotIndex {
+    fn new() -> SlotIndex {
+        SlotIndex { first: [NO_SLOT; MOST_SECTORS], looked_at: 0 }
+    }
+
+    fn find(&mut self, stretch: &[u8], slot_size: usize, sector: usize) -> Option<usize> {
+        if self.first[sector] != NO_SLOT {
+            return Some(usize::from(self.first[sector]));
+        }
+        for id in stretch[self.looked_at * slot_size..].chunks_exact(slot_size) {
+            let slot = self.looked_at;
+            self.looked_at += 1;
+            if id[0] != MARK {
+                continue;
+            }
+            let found = usize::from(id[4]);
+            if found == sector {
+                self.first[sector] = slot as u8;
+                return Some(slot);
+            }
+            if let Some(first) = self.first.get_mut(found).filter(|first| **first == NO_SLOT) {
+                *first = slot as u8;
+            }
+        }
+        None
+    }
+}
+
+/// The sector of each slot of a track; past its `sectors` slots nothing is meant.
+type Layout = [u8; MOST_SECTORS];
+
+fn layout(sectors: usize, interleave: usize) -> Layout {
+    // No step is longer than once round.
+    let round = |slot| if slot < sectors { slot } else { slot - sectors };
+    let mut sector_of = [NO_SECTOR; MOST_SECTORS];
+    let mut slot = 0;
+    for sector in 0..sectors {
+        while sector_of[slot] != NO_SECTOR {
+            slot = round(slot + 1);
+        }
+        sector_of[slot] = sector as u8;
+        slot = round(slot + interleave);
+    }
+    sector_of
+}
+
+/// How a track is formatted.
+struct Format<'a> {
+    geometry: Geometry,
+    layout: Layout,
+    fill: &'a [u8],
+}
+
+impl Format<'_> {
+    fn track(&self, image: &mut [u8], track: usize, flag: u8, partner: usize) {
+        let own = self.geometry.own(track);
+        let stretch = &mut image[self.geometry.stretch(track)];
+        let slots = stretch.chunks_exact_mut(self.geometry.slot_size());
+        for (slot, sector) in slots.zip(self.layout) {
+            let (id, data) = slot.split_at_mut(ID);
+            id.copy_from_slice(&Id::new(own, sector, flag, partner).0);
+            data.copy_from_slice(self.fill);
+        }
+    }
+}
+
+/// Moves `count` sectors from `first` on; `move_sector` gets the sector's place in the transfer
+/// and its data in the image. The error is the number of sectors done and the code.
+fn transfer(
+    geometry: Geometry,
+    image: &mut [u8],
+    first: usize,
+    count: usize,
+    mut move_sector: impl FnMut(usize, &mut [u8]),
+) -> Result<(), (usize, u8)> {
+    let slot_size = geometry.slot_size();
+    let mut done = 0;
+    while done < count {
+        let track = geometry.track(first + done);
+        let sector = (first + done) % geometry.sectors;
+        let last = geometry.sectors.min(sector + count - done);
+        let home = geometry.home(image, track).map_err(|code| (done, code))?;
+        let stretch = &mut image[geometry.stretch(home)];
+        let mut index = SlotIndex::new();
+        for sector in sector..last {
+            let slot = index.find(stretch, slot_size, sector).ok_or((done, 0x14))?;
+            let start = slot * slot_size;
+            move_sector(done, &mut stretch[start + ID..start + slot_size]);
+            done += 1;
+        }
+    }
+    Ok(())
+}
+
+fn hand_over(bytes: &[u8], area: &mut [u8], answer: &mut Answer) -> Run {
+    let handed = area.get_mut(..bytes.len()).ok_or(Stop::Refused(3))?;
+    handed.copy_from_slice(bytes);
+    answer.bytes = bytes.len() as u32;
+    Ok(())
+}
+
+fn take<const N: usize>(given: &[u8]) -> Result<&[u8; N], Stop> {
+    given.first_chunk().ok_or(Stop::Refused(2))
+}
+
+impl Drive {
+    fn from_label(image: &[u8]) -> Drive {
+        let label: Option<&[u8; LABEL]> = image.first_chunk();
+        match label.and_then(|label| label.split_first_chunk::<CONFIG>()) {
+            Some((config, rest))
+                if rest.iter().all(|&byte| byte == 0)
+                    && Geometry::of(config, image.len()).is_some() =>
+            {
+                Drive { config: *config, known: true, ..Drive::default() }
+            }
+            _ => Drive::default(),
+        }
+    }
+
+    /// The parameters that count with an image of this length.
+    fn geometry(&self, image_length: usize) -> Option<Geometry> {
+        self.known.then(|| Geometry::of(&self.config, image_length))?
+    }
+}
+
+impl Controller {
+    pub fn fresh(image0: &[u8], image1: &[u8]) -> Controller {
+        let absent = Drive::default();
+        Controller {
+            buffer: [0; BUFFER],
+            drives: [Drive::from_label(image0), Drive::from_label(image1), absent, absent],
+        }
+    }
+
+    pub fn reset(&mut self, image0: &[u8], image1: &[u8]) -> Answer {
+        *self = Controller::fresh(image0, image1);
+        Answer::default()
+    }
+
+    pub fn execute(
+        &mut self,
+        block: &[u8],
+        given: &[u8],
+        area: &mut [u8],
+        image0: &mut [u8],
+        image1: &mut [u8],
+    ) -> Answer {
+        let Ok(bytes) = <&[u8; 6]>::try_from(block) else {
+            return Answer { number: 1, ..Answer::default() };
+        };
+        let block = Block::decode(bytes);
+        let image = match block.drive {
+            0 => image0,
+            1 => image1,
+            _ => &mut [],
+        };
+        let drive_bits = (block.drive as u8) << 5;
+        let mut answer = Answer { status: drive_bits, ..Answer::default() };
+        let (code, address) = match self.run(&block, given, area, image, &mut answer) {
+            Ok(()) if block.opcode == opcode::REQUEST_SENSE => return answer,
+            Ok(()) => (0, None),
+            Err(Stop::Refused(number)) => return Answer { number, ..Answer::default() },
+            Err(Stop::Fault { code, address }) => {
+                answer.status |= 2;
+                (code, address)
+            }
+        };
+        self.drives[block.drive].sense = match address {
+            None => [code, drive_bits, 0, 0],
+            Some(at) => [code | 0x80, drive_bits | (at >> 16) as u8, (at >> 8) as u8, at as u8],
+        };
+        answer
+    }
+
+    fn run(
+        &mut self,
+        block: &Block,
+        given: &[u8],
+        area: &mut [u8],
+        image: &mut [u8],
+        answer: &mut Answer,
+    ) -> Run {
+        let undefined = block.undefined_control().ok_or(fault(0x20))?;
+        if block.unused_bit || block.control & undefined != 0 {
+            return Err(fault(0x22));
+        }
+        match block.opcode {
+            opcode::REQUEST_SENSE => hand_over(&self.drives[block.drive].sense, area, answer),
+            opcode::WRITE_BUFFER => {
+                self.buffer = *take(given)?;
+                Ok(())
+            }
+            opcode::READ_BUFFER => hand_over(&self.buffer, area, answer),
+            opcode::INITIALIZE => self.initialize(block.drive, given, image.len()),
+            _ => self.run_on_drive(block, given, area, image, answer),
+        }
+    }
+
+    fn run_on_drive(
+        &mut self,
+        block: &Block,
+        given: &[u8],
+        area: &mut [u8],
+        image: &mut [u8],
+        answer: &mut Answer,
+    ) -> Run {
+        let geometry = self.check_drive(block, image.len())?;
+        match block.opcode {
+            opcode::FORMAT_DRIVE => self.format_drive(block, geometry, image),
+            opcode::CHECK_TRACK => check_track(block, geometry, image),
+            opcode::FORMAT_TRACK => self.format_track(block, geometry, image, flag::SOUND),
+            opcode::FORMAT_BAD_TRACK => self.format_track(block, geometry, image, flag::BAD),
+            opcode::READ => self.read(block, geometry, image, area, answer),
+            opcode::WRITE => self.write(block, geometry, image, given, answer),
+            opcode::ASSIGN_ALTERNATE => self.assign(block, geometry, image, given),
+            _ => Ok(()), // Test Ready, Recalibrate, Seek: checks only
+        }
+    }
+
+    /// The checks from 04h to 16h of the commands that need parameters.
+    fn check_drive(&self, block: &Block, image_length: usize) -> Result<Geometry, Stop> {
+        let drive = &self.drives[block.drive];
+        if image_length < LABEL {
+            return Err(fault(0x04));
+        }
+        let geometry = drive.geometry(image_length).ok_or(fault(0x0A))?;
+        if block.has_interleave() && !(1..geometry.sectors).contains(&block.fifth) {
+            return Err(fault(0x22));
+        }
+        if block.last_address().is_some_and(|last| last >= geometry.addresses()) {
+            return Err(fault_at(0x21, block.address));
+        }
+        if drive.pending && !block.runs_pending(geometry) {
+            return Err(fault(0x16));
+        }
+        Ok(geometry)
+    }
+
+    fn initialize(&mut self, drive: usize, given: &[u8], image_length: usize) -> Run {
+        if image_length < LABEL {
+            return Err(fault(0x04));
+        }
+        let config = take(given)?;
+        if Geometry::of(config, image_length).is_none() {
+            return Err(fault(0x22));
+        }
+        let drive = &mut self.drives[drive];
+        (drive.config, drive.known, drive.pending) = (*config, true, true);
+        Ok(())
+    }
+
+    /// The block's fill: the buffer with control bit 5, else 6Ch.
+    fn fill(&self, block: &Block, data: usize) -> &[u8] {
+        let from_buffer = block.control & 0x20 != 0;
+        &(if from_buffer { &self.buffer } else { &FORMAT_FILL })[..data]
+    }
+
+    fn format_drive(&mut self, block: &Block, geometry: Geometry, image: &mut [u8]) -> Run {
+        let start = geometry.track(block.address);
+        let splits_a_pair = |track| match geometry.judged(image, track) {
+            Some((flag::MOVED | flag::TAKEN, partner)) => (track < start) != (partner < start),
+            _ => false,
+        };
+        if (0..geometry.tracks).any(splits_a_pair) {
+            return Err(fault_at(0x1D, block.address));
+        }
+        let layout = layout(geometry.sectors, block.fifth);
+        let format = Format { geometry, layout, fill: self.fill(block, geometry.data) };
+        for track in start..geometry.tracks {
+            format.track(image, track, flag::SOUND, 0);
+        }
+        let drive = &mut self.drives[block.drive];
+        image[..CONFIG].copy_from_slice(&drive.config);
+        image[CONFIG..LABEL].fill(0);
+        drive.pending = false;
+        Ok(())
+    }
+
+    fn format_track(&self, block: &Block, geometry: Geometry, image: &mut [u8], flag: u8) -> Run {
+        let track = geometry.track(block.address);
+        refuse_moved_or_taken(block, geometry, image, track)?;
+        // Bit 5 is refused in Format Bad Track, so its fill is 6Ch.
+        let layout = layout(geometry.sectors, block.fifth);
+        let fill = self.fill(block, geometry.data);
+        Format { geometry, layout, fill }.track(image, track, flag, 0);
+        Ok(())
+    }
+
+    fn assign(&self, block: &Block, geometry: Geometry, image: &mut [u8], given: &[u8]) -> Run {
+        let bytes = take(given)?;
+        let address = address_of(bytes);
+        if bytes[0] > 0x1F {
+            return Err(fault(0x22));
+        }
+        if address >= geometry.addresses() {
+            return Err(fault_at(0x21, address));
+        }
+        let (from, to) = (geometry.track(block.address), geometry.track(address));
+        refuse_moved_or_taken(block, geometry, image, from)?;
+        if from == to {
+            return Err(fault(0x22));
+        }
+        match geometry.judged(image, to) {
+            Some((flag::TAKEN, _)) => return Err(fault_at(0x1D, address)),
+            Some((flag::MOVED | flag::BAD, _)) => return Err(fault_at(0x1F, address)),
+            _ => {}
+        }
+        let layout = layout(geometry.sectors, block.fifth);
+        let mut format = Format { geometry, layout, fill: &FORMAT_FILL[..geometry.data] };
+        format.track(image, from, flag::MOVED, to);
+        format.fill = self.fill(block, geometry.data);
+        format.track(image, to, flag::TAKEN, from);
+        Ok(())
+    }
+
+    fn read(
+        &mut self,
+        block: &Block,
+        geometry: Geometry,
+        image: &mut [u8],
+        area: &mut [u8],
+        answer: &mut Answer,
+    ) -> Run {
+        let (count, data) = (block.count(), geometry.data);
+        let area = area.get_mut(..count * data).ok_or(Stop::Refused(3))?;
+        let moved = transfer(geometry, image, block.address, count, |done, sector| {
+            area[done * data..][..data].copy_from_slice(sector);
+        });
+        let ended = self.after_transfer(block, data, area, moved, answer);
+        answer.bytes = u32::from(answer.sectors) * data as u32;
+        ended
+    }
+
+    fn write(
+        &mut self,
+        block: &Block,
+        geometry: Geometry,
+        image: &mut [u8],
+        given: &[u8],
+        answer: &mut Answer,
+    ) -> Run {
+        let (count, data) = (block.count(), geometry.data);
+        let given = given.get(..count * data).ok_or(Stop::Refused(2))?;
+        let moved = transfer(geometry, image, block.address, count, |done, sector| {
+            sector.copy_from_slice(&given[done * data..][..data]);
+        });
+        self.after_transfer(block, data, given, moved, answer)
+    }
+
+    /// Counts the sectors done and leaves the last of them in the buffer.
+    fn after_transfer(
+        &mut self,
+        block: &Block,
+        data: usize,
+        bytes: &[u8],
+        moved: Result<(), (usize, u8)>,
+        answer: &mut Answer,
+    ) -> Run {
+        let done = moved.map_or_else(|(done, _)| done, |()| block.count());
+        if let Some(last) = bytes[..done * data].rchunks_exact(data).next() {
+            self.buffer[..data].copy_from_slice(last);
+        }
+        answer.sectors = done as u16;
+        moved.map_err(|(done, code)| fault_at(code, block.address + done))
+    }
+}
+
+fn check_track(block: &Block, geometry: Geometry, image: &[u8]) -> Run {
+    let track = geometry.track(block.address);
+    let home = geometry.home(image, track).map_err(|code| fault_at(code, block.address))?;
+    let (flag, partner) = if home == track { (flag::SOUND, 0) } else { (flag::TAKEN, track) };
+    let own = geometry.own(home);
+    let slots = image[geometry.stretch(home)].chunks_exact(geometry.slot_size());
+    let mut sectors = slots.zip(layout(geometry.sectors, block.fifth));
+    if sectors.all(|(slot, sector)| slot[..ID] == Id::new(own, sector, flag, partner).0) {
+        Ok(())
+    } else {
+        Err(fault_at(0x1A, block.address))
+    }
+}
+
+/// Refuses to format a track of the block's that belongs to a pair.
+fn refuse_moved_or_taken(block: &Block, geometry: Geometry, image: &[u8], track: usize) -> Run {
+    match geometry.judged(image, track) {
+        Some((flag::MOVED, _)) => Err(fault_at(0x1D, block.address)),
+        Some((flag::TAKEN, _)) => Err(fault_at(0x1C, block.address)),
+        _ => Ok(()),
+    }
+}

@@ -1,0 +1,688 @@
+//! Seeded calls, images and records. Calls are mostly sensible, so that deep states are reached,
+//! and partly spoilt; nothing here looks at an engine's answers.
+
+use std::collections::BTreeMap;
+
+use crate::engine::{Call, Step};
+use crate::paper::{self, Config, Geometry, ID, LABEL};
+use crate::plain::{Controller, Drive};
+
+const OPCODES: [u8; 14] =
+    [0x00, 0x01, 0x03, 0x04, 0x05, 0x06, 0x07, 0x08, 0x0A, 0x0B, 0x0E, 0x0F, 0x10, 0x11];
+
+/// Commands on a drive with its parameters in force, by weight.
+const ON_FORMATTED: [(u32, u8); 14] = [
+    (2, 0x00),
+    (1, 0x01),
+    (8, 0x03),
+    (6, 0x04),
+    (12, 0x05),
+    (7, 0x06),
+    (6, 0x07),
+    (19, 0x08),
+    (19, 0x0A),
+    (2, 0x0B),
+    (13, 0x0E),
+    (3, 0x0F),
+    (3, 0x10),
+    (3, 0x11),
+];
+
+/// Commands on a drive whose parameters are pending; Format Drive brings it on.
+const ON_PENDING: [(u32, u8); 6] =
+    [(50, 0x04), (8, 0x11), (4, 0x00), (3, 0x01), (6, 0x03), (5, 0x0F)];
+
+/// Commands on a drive without parameters; Initialize brings it on.
+const ON_UNKNOWN: [(u32, u8); 5] = [(70, 0x11), (4, 0x00), (8, 0x03), (4, 0x0F), (4, 0x10)];
+
+/// SplitMix64.
+#[derive(Clone)]
+pub struct Random(u64);
+
+impl Random {
+    pub fn new(seed: u64) -> Random {
+        Random(seed)
+    }
+
+    pub fn number(&mut self) -> u64 {
+        self.0 = self.0.wrapping_add(0x9E37_79B9_7F4A_7C15);
+        let mut mixed = self.0;
+        mixed = (mixed ^ (mixed >> 30)).wrapping_mul(0xBF58_476D_1CE4_E5B9);
+        mixed = (mixed ^ (mixed >> 27)).wrapping_mul(0x94D0_49BB_1331_11EB);
+        mixed ^ (mixed >> 31)
+    }
+
+    /// A number below `limit`, which is not 0.
+    pub fn below(&mut self, limit: u32) -> u32 {
+        (self.number() % u64::from(limit)) as u32
+    }
+
+    pub fn size_below(&mut self, limit: usize) -> usize {
+        (self.number() % limit as u64) as usize
+    }
+
+    pub fn byte(&mut self) -> u8 {
+        self.number() as u8
+    }
+
+    pub fn chance(&mut self, percent: u32) -> bool {
+        self.below(100) < percent
+    }
+
+    pub fn pick<T: Copy>(&mut self, from: &[T]) -> T {
+        from[self.size_below(from.len())]
+    }
+
+    /// One of the values, each as often as its weight says.
+    pub fn weighted<T: Copy>(&mut self, from: &[(u32, T)]) -> T {
+        let mut left = self.below(from.iter().map(|(weight, _)| weight).sum());
+        for &(weight, value) in from {
+            if left < weight {
+                return value;
+            }
+            left -= weight;
+        }
+        unreachable!("the draw is below the sum of the weights")
+    }
+
+    pub fn fill(&mut self, bytes: &mut [u8]) {
+        for chunk in bytes.chunks_mut(8) {
+            chunk.copy_from_slice(&self.number().to_le_bytes()[..chunk.len()]);
+        }
+    }
+
+    pub fn bytes(&mut self, length: usize) -> Vec<u8> {
+        let mut bytes = vec![0; length];
+        self.fill(&mut bytes);
+        bytes
+    }
+}
+
+/// How large drives are.
+#[derive(Clone, Copy, Debug, PartialEq, Eq)]
+pub enum Scale {
+    /// Few tracks: quick to try, and calls meet each other often.
+    Small,
+    /// So many that cylinders, partners and addresses need their high bytes.
+    Wide,
+}
+
+/// A configuration of either size that is valid with an image long enough.
+fn any_config(random: &mut Random, scale: Scale) -> Config {
+    let (cylinders, heads) = match scale {
+        Scale::Small => (
+            random.weighted(&[(4, 1), (8, 2), (8, 3), (3, 4), (1, 5)]),
+            random.weighted(&[(5, 1), (8, 2), (6, 3), (2, 4), (1, 7)]),
+        ),
+        Scale::Wide => (293 + random.below(20), 7),
+    };
+    let [high, low] = (cylinders as u16).to_be_bytes();
+    let mut config = [high, low, heads, 0, 1 + random.below(2) as u8, 0, 0, 0, 0, 0];
+    random.fill(&mut config[5..9]);
+    config[3] = 16 * random.below(5) as u8 + random.below(2) as u8;
+    config[9] = random.below(12) as u8;
+    config
+}
+
+/// A configuration that is valid with this image length, if one is soon found.
+fn fitting_config(random: &mut Random, scale: Scale, length: usize) -> Option<Config> {
+    let mut tries = (0..20).map(|_| any_config(random, scale));
+    tries.find(|config| Geometry::read(config, length).is_some())
+}
+
+/// Makes a configuration invalid in one place.
+fn spoil_config(random: &mut Random, config: &mut Config) {
+    let low_bits = 2 + random.below(14) as u8;
+    let places = [
+        (1, 0),
+        (0, 0x04 + random.below(8) as u8),
+        (2, 0),
+        (2, 8),
+        (3, 0x50),
+        (3, low_bits),
+        (4, 0),
+        (4, 3),
+        (9, 12),
+        (9, 0xFF),
+    ];
+    let (at, value) = random.pick(&places);
+    config[at] = value;
+}
+
+fn any_geometry(random: &mut Random, scale: Scale) -> (Config, Geometry) {
+    let config = any_config(random, scale);
+    (config, Geometry::read(&config, usize::MAX).expect("valid with a long image"))
+}
+
+/// The length of a zero image for a list: mostly room for a drive of this scale.
+pub fn list_length(random: &mut Random, scale: Scale) -> usize {
+    match random.below(100) {
+        0..=6 => random.size_below(LABEL),
+        7..=9 => LABEL + random.size_below(200),
+        choice => {
+            let (_, geometry) = any_geometry(random, scale);
+            let exact = geometry.image_length();
+            match choice {
+                10..=15 => exact - 1,
+                16..=69 => exact,
+                _ => exact + random.size_below(9000),
+            }
+        }
+    }
+}
+
+/// What the maker of calls believes of a drive: that its sensible calls went well.
+#[derive(Clone, Default)]
+struct Belief {
+    stored: Option<Config>,
+    in_force: Option<Config>,
+    pending: bool,
+    /// Tracks that were made bad or paired.
+    marked: Vec<u32>,
+    interleaves: BTreeMap<u32, u8>,
+}
+
+/// Makes calls, one after the other.
+pub struct Caller {
+    pub random: Random,
+    scale: Scale,
+    lengths: [usize; 2],
+    beliefs: [Belief; 2],
+}
+
+/// The parts of a command before they become bytes.
+struct Draft {
+    opcode: u8,
+    drive: u8,
+    address: u32,
+    fifth: u8,
+    control: u8,
+    given: Vec<u8>,
+    handed_over: usize,
+}
+
+impl Caller {
+    /// For a list on zero images of these lengths.
+    pub fn new(random: Random, scale: Scale, lengths: [usize; 2]) -> Caller {
+        Caller { random, scale, lengths, beliefs: Default::default() }
+    }
+
+    /// The next call.
+    pub fn step(&mut self) -> Step {
+        if self.random.chance(2) {
+            return self.reset();
+        }
+        let drive = self.drive();
+        let before = self.beliefs.clone();
+        let draft = self.sensible(drive);
+        let mut step = self.step_of(draft);
+        if self.random.chance(8) {
+            self.beliefs = before;
+            self.spoil(&mut step);
+        }
+        step
+    }
+
+    /// A drive, seldom one that is absent.
+    fn drive(&mut self) -> u8 {
+        let weight = |length| if length < LABEL { 4 } else { 46 };
+        let [first, second] = self.lengths.map(weight);
+        self.random.weighted(&[(first, 0), (second, 1), (3, 2), (3, 3)])
+    }
+
+    fn reset(&mut self) -> Step {
+        for belief in &mut self.beliefs {
+            belief.in_force = belief.stored;
+            belief.pending = false;
+        }
+        Step { call: Call::Reset, area: Vec::new() }
+    }
+
+    fn believed(&self, drive: u8) -> Option<Geometry> {
+        let config = self.beliefs.get(usize::from(drive))?.in_force?;
+        Geometry::read(&config, self.lengths[usize::from(drive)])
+    }
+
+    fn opcode(&mut self, drive: u8) -> u8 {
+        if self.random.chance(5) {
+            return self.random.pick(&OPCODES);
+        }
+        match self.beliefs.get(usize::from(drive)) {
+            Some(Belief { in_force: Some(_), pending: false, .. }) => {
+                self.random.weighted(&ON_FORMATTED)
+            }
+            Some(Belief { in_force: Some(_), .. }) => self.random.weighted(&ON_PENDING),
+            Some(_) => self.random.weighted(&ON_UNKNOWN),
+            None => self.random.pick(&OPCODES),
+        }
+    }
+
+    fn sensible(&mut self, drive: u8) -> Draft {
+        let opcode = self.opcode(drive);
+        let other = Geometry { cylinders: 1, heads: 1, sectors: 32, data: 256 };
+        let geometry = self.believed(drive).unwrap_or(other);
+        let mut draft = self.empty_draft(opcode, drive);
+        match opcode {
+            0x03 => draft.handed_over = 4,
+            0x04 => self.format_drive(&mut draft, &geometry),
+            0x05 => self.check_track(&mut draft, &geometry),
+            0x06 | 0x07 => self.format_track(&mut draft, &geometry),
+            0x08 => {
+                self.transfer(&mut draft, &geometry);
+                draft.handed_over = sectors(draft.fifth) * geometry.data;
+            }
+            0x0A => {
+                self.transfer(&mut draft, &geometry);
+                draft.given = self.random.bytes(sectors(draft.fifth) * geometry.data);
+            }
+            0x0B => draft.address = self.address(drive, &geometry),
+            0x0E => self.assign(&mut draft, &geometry),
+            0x0F => draft.given = self.random.bytes(512),
+            0x10 => draft.handed_over = 512,
+            0x11 => self.initialize(&mut draft),
+            _ => {}
+        }
+        draft
+    }
+
+    /// A command with the fields that it does not use at 0 or at random, and good control bits.
+    fn empty_draft(&mut self, opcode: u8, drive: u8) -> Draft {
+        let noise = if self.random.chance(30) { self.random.number() as u32 } else { 0 };
+        let control = match opcode {
+            0x04 | 0x06 | 0x0E => self.random.weighted(&[(5, 0), (4, 0x20), (1, 0xA0), (1, 0x80)]),
+            0x05..=0x0B => self.random.weighted(&[(5, 0), (1, 0x80)]),
+            _ => noise as u8,
+        };
+        Draft {
+            opcode,
+            drive,
+            address: noise >> 11,
+            fifth: (noise >> 3) as u8,
+            control,
+            given: Vec::new(),
+            handed_over: 0,
+        }
+    }
+
+    /// A track, often one with a past.
+    fn track(&mut self, drive: u8, geometry: &Geometry) -> u32 {
+        let marked = self.beliefs.get(usize::from(drive)).map_or(&[][..], |b| &b.marked[..]);
+        if !marked.is_empty() && self.random.chance(50) {
+            let marked = marked[self.random.size_below(marked.len())];
+            return marked.min(geometry.tracks() - 1);
+        }
+        self.random.below(geometry.tracks())
+    }
+
+    /// An address, nearly always on the drive.
+    fn address(&mut self, drive: u8, geometry: &Geometry) -> u32 {
+        match self.random.below(100) {
+            0..=89 => {
+                let sector = self.random.below(geometry.sectors);
+                self.track(drive, geometry) * geometry.sectors + sector
+            }
+            90..=94 => geometry.addresses() - 1 - self.random.below(3),
+            95..=97 => geometry.addresses() + self.random.below(3),
+            _ => self.random.below(1 << 21),
+        }
+    }
+
+    fn interleave(&mut self, geometry: &Geometry) -> u8 {
+        let n = geometry.sectors as u8;
+        match self.random.below(100) {
+            0..=1 => 0,
+            2..=3 => n,
+            4 => self.random.byte(),
+            5..=39 => 1 + self.random.below(3) as u8,
+            40..=49 => n - 1,
+            _ => 1 + self.random.below(geometry.sectors - 1) as u8,
+        }
+    }
+
+    fn format_drive(&mut self, draft: &mut Draft, geometry: &Geometry) {
+        let pending = self.beliefs.get(usize::from(draft.drive)).is_some_and(|b| b.pending);
+        draft.fifth = self.interleave(geometry);
+        draft.address = if self.random.chance(if pending { 90 } else { 25 }) {
+            self.random.below(geometry.sectors)
+        } else {
+            self.address(draft.drive, geometry)
+        };
+        let (start, _) = geometry.split(draft.address);
+        if let Some(belief) = self.beliefs.get_mut(usize::from(draft.drive)) {
+            belief.interleaves.extend((start..geometry.tracks()).map(|t| (t, draft.fifth)));
+            if start == 0 {
+                belief.marked.clear();
+                belief.stored = belief.in_force;
+                belief.pending = false;
+            }
+        }
+    }
+
+    fn note(&mut self, draft: &Draft, track: u32, marked: bool) {
+        if let Some(belief) = self.beliefs.get_mut(usize::from(draft.drive)) {
+            belief.interleaves.insert(track, draft.fifth);
+            if marked {
+                belief.marked.push(track);
+            }
+        }
+    }
+
+    fn check_track(&mut self, draft: &mut Draft, geometry: &Geometry) {
+        draft.address = self.address(draft.drive, geometry);
+        let (track, _) = geometry.split(draft.address);
+        let belief = self.beliefs.get(usize::from(draft.drive));
+        let known = belief.and_then(|belief| belief.interleaves.get(&track).copied());
+        draft.fifth = match known {
+            Some(interleave) if self.random.chance(70) => interleave,
+            _ => self.interleave(geometry),
+        };
+    }
+
+    fn format_track(&mut self, draft: &mut Draft, geometry: &Geometry) {
+        draft.address = self.address(draft.drive, geometry);
+        draft.fifth = self.interleave(geometry);
+        self.note(draft, geometry.split(draft.address).0, draft.opcode == 0x07);
+    }
+
+    /// Address and count of a transfer: short ones, whole tracks, and to the drive's end.
+    fn transfer(&mut self, draft: &mut Draft, geometry: &Geometry) {
+        let all = geometry.addresses();
+        if all >= 256 && self.random.chance(5) {
+            draft.address = self.random.below(all - 255);
+            draft.fifth = 0;
+            return;
+        }
+        draft.address = self.address(draft.drive, geometry);
+        let left = all.saturating_sub(draft.address).min(255);
+        let count = match self.random.below(100) {
+            0..=49 => 1 + self.random.below(4),
+            50..=74 => 1 + self.random.below(geometry.sectors + 5),
+            75..=94 => left,
+            95..=97 => left + 1,
+            _ => self.random.below(256),
+        };
+        draft.fifth = if self.random.chance(90) { count.min(left.max(1)) } else { count } as u8;
+    }
+
+    fn assign(&mut self, draft: &mut Draft, geometry: &Geometry) {
+        draft.address = self.address(draft.drive, geometry);
+        draft.fifth = self.interleave(geometry);
+        let alternate = match self.random.below(100) {
+            0..=49 => self.random.below(geometry.addresses()),
+            _ => self.address(draft.drive, geometry),
+        };
+        draft.given = alternate.to_be_bytes()[1..].to_vec();
+        if self.random.chance(3) {
+            draft.given[0] |= 0x20 << self.random.below(3);
+        }
+        self.note(draft, geometry.split(draft.address).0, true);
+        self.note(draft, geometry.split(alternate).0, true);
+    }
+
+    fn initialize(&mut self, draft: &mut Draft) {
+        let drive = usize::from(draft.drive);
+        let length = self.lengths.get(drive).copied().unwrap_or(0);
+        let stored = self.beliefs.get(drive).and_then(|belief| belief.stored);
+        let mut config = match (stored, fitting_config(&mut self.random, self.scale, length)) {
+            (Some(stored), _) if self.random.chance(20) => stored,
+            (_, Some(fitting)) => fitting,
+            (_, None) => any_config(&mut self.random, Scale::Small),
+        };
+        if self.random.chance(12) {
+            spoil_config(&mut self.random, &mut config);
+        } else if let Some(belief) = self.beliefs.get_mut(drive) {
+            if Geometry::read(&config, length).is_some() {
+                belief.in_force = Some(config);
+                belief.pending = true;
+            }
+        }
+        draft.given = config.to_vec();
+    }
+
+    /// The call with lengths of given data and area that are mostly enough.
+    fn step_of(&mut self, draft: Draft) -> Step {
+        let [_, high, middle, low] = draft.address.to_be_bytes();
+        let second = draft.drive << 5 | high & 0x1F;
+        let block = vec![draft.opcode, second, middle, low, draft.fifth, draft.control];
+        let mut given = draft.given;
+        let length = self.about(given.len());
+        if length <= given.len() {
+            given.truncate(length);
+        } else {
+            let surplus = self.random.bytes(length - given.len());
+            given.extend(surplus);
+        }
+        let length = self.about(draft.handed_over);
+        let area = self.random.bytes(length);
+        Step { call: Call::Execute { block, given }, area }
+    }
+
+    /// A length, mostly the one wanted.
+    fn about(&mut self, wanted: usize) -> usize {
+        match self.random.below(100) {
+            0..=67 => wanted,
+            68..=97 => wanted + self.random.size_below(40),
+            98 => wanted.saturating_sub(1),
+            _ => self.random.size_below(wanted + 1),
+        }
+    }
+
+    /// Changes one thing of a command, whatever comes of it.
+    fn spoil(&mut self, step: &mut Step) {
+        let random = &mut self.random;
+        let Call::Execute { block, given } = &mut step.call else {
+            return;
+        };
+        match random.below(12) {
+            0 => block.truncate(random.size_below(6)),
+            1 => block.extend([0; 5].iter().take(1 + random.size_below(5))),
+            2 => block[1] |= 0x80,
+            3 => block[5] = random.byte(),
+            4 => block[5] |= 1 << random.below(8),
+            5 => block[0] = random.byte(),
+            6 => block[0] = random.pick(&[0x02, 0x09, 0x0C, 0x0D, 0x12]),
+            7 => random.fill(block),
+            8 => block[1] ^= 0x20 << random.below(2),
+            9 => given.truncate(random.size_below(given.len() + 1)),
+            10 => step.area.truncate(random.size_below(step.area.len() + 1)),
+            _ => *given = random.bytes(given.len()),
+        }
+    }
+
+    /// Lends other bytes or another length than the last call left.
+    pub fn disturb(&mut self, images: &mut [Vec<u8>; 2]) {
+        let drive = self.random.size_below(2);
+        let image = &mut images[drive];
+        match self.random.below(10) {
+            0 => image.truncate(image.len().saturating_sub(1)),
+            1 => image.truncate(self.random.size_below(image.len() + 1)),
+            2 => image.extend_from_slice(&[0xA1; 3]),
+            3 => image.resize(self.lengths[drive], 0),
+            _ => {
+                let geometry = self.believed(drive as u8);
+                let fits = |geometry: &Geometry| image.len() >= geometry.image_length();
+                if let Some(geometry) = geometry.filter(fits) {
+                    damage(&mut self.random, image, &geometry);
+                }
+            }
+        }
+    }
+}
+
+fn sectors(count: u8) -> usize {
+    if count == 0 {
+        256
+    } else {
+        usize::from(count)
+    }
+}
+
+/// A damaged start: any record, any images, the first of the scale asked for, and a caller that
+/// knows what they were made from.
+pub struct Damaged {
+    pub controller: Controller,
+    pub images: [Vec<u8>; 2],
+    pub caller: Caller,
+}
+
+pub fn damaged(mut random: Random, scale: Scale) -> Damaged {
+    let mut beliefs: [Belief; 2] = Default::default();
+    let images = [(0, scale), (1, Scale::Small)]
+        .map(|(drive, scale)| damaged_image(&mut random, scale, &mut beliefs[drive]));
+    let controller = record(&mut random, [0, 1].map(|drive| beliefs[drive].in_force));
+    let lengths = [0, 1].map(|drive| images[drive].len());
+    Damaged { controller, images, caller: Caller { random, scale, lengths, beliefs } }
+}
+
+/// An arbitrary record; the drives mostly know the configuration given.
+pub fn record(random: &mut Random, configs: [Option<Config>; 2]) -> Controller {
+    let mut buffer = [0; 512];
+    random.fill(&mut buffer);
+    let drives = [configs[0], configs[1], None, None].map(|config| drive_record(random, config));
+    Controller { buffer, drives }
+}
+
+fn drive_record(random: &mut Random, config: Option<Config>) -> Drive {
+    let mut sense = [0; 4];
+    random.fill(&mut sense);
+    let mut any = any_config(random, Scale::Small);
+    if random.chance(30) {
+        random.fill(&mut any);
+    }
+    let config = config.filter(|_| random.chance(95)).unwrap_or(any);
+    Drive { sense, config, known: random.chance(96), pending: random.chance(8) }
+}
+
+/// An image of any length and bytes; mostly formatted by somebody, then damaged.
+fn damaged_image(random: &mut Random, scale: Scale, belief: &mut Belief) -> Vec<u8> {
+    let (config, geometry) = any_geometry(random, scale);
+    belief.in_force = Some(config);
+    belief.stored = Some(config);
+    let mut image = random.bytes(geometry.image_length());
+    write_label(random, &mut image, &config);
+    match random.below(10) {
+        0 if random.chance(50) => {
+            let length = random.size_below(40_000);
+            return random.bytes(length);
+        }
+        0..=3 => write_hostile_tracks(random, &mut image, &geometry),
+        _ => {
+            write_tracks(random, &mut image, &geometry, belief);
+            for _ in 0..random.pick(&[0, 1, 2, 4, 8, 16]) {
+                damage(random, &mut image, &geometry);
+            }
+        }
+    }
+    match random.below(40) {
+        0 => image.truncate(image.len() - 1),
+        1 => image.truncate(random.size_below(100)),
+        2..=12 => image.extend(random.bytes(30)),
+        _ => {}
+    }
+    image
+}
+
+fn write_label(random: &mut Random, image: &mut [u8], config: &Config) {
+    image[..10].copy_from_slice(config);
+    image[10..LABEL].fill(0);
+    if random.chance(25) {
+        let value = random.byte();
+        image[random.size_below(LABEL)] = value;
+    }
+}
+
+/// Tracks as formats and assignments leave them.
+fn write_tracks(random: &mut Random, image: &mut [u8], geometry: &Geometry, belief: &mut Belief) {
+    let tracks = geometry.tracks();
+    let mut states: Vec<(u8, u32)> = (0..tracks).map(|_| (random.chance(15) as u8, 0)).collect();
+    for _ in 0..random.below(tracks) {
+        let (a, b) = (random.below(tracks), random.below(tracks));
+        let unpaired = |track: u32| states[track as usize].0 < 2;
+        if a != b && unpaired(a) && unpaired(b) {
+            states[a as usize] = (2, b);
+            states[b as usize] = (3, a);
+        }
+    }
+    // A pair shares its interleave.
+    let interleaves: Vec<u32> =
+        (0..tracks).map(|_| 1 + random.below(geometry.sectors - 1)).collect();
+    for (track, &(flag, partner)) in (0..).zip(&states) {
+        let of = if flag == 3 { partner } else { track };
+        let interleave = interleaves[of as usize];
+        belief.interleaves.insert(track, interleave as u8);
+        if flag > 0 {
+            belief.marked.push(track);
+        }
+        let order = paper::sectors_of_slots(geometry.sectors, interleave);
+        for (slot, sector) in (0..).zip(order) {
+            let id = geometry.id(track, sector, flag, partner);
+            image[geometry.slot(track, slot)][..ID].copy_from_slice(&id);
+        }
+    }
+}
+
+/// Slots that are nearly right, each field chosen for itself: duplicates and gaps everywhere.
+fn write_hostile_tracks(random: &mut Random, image: &mut [u8], geometry: &Geometry) {
+    for track in 0..geometry.tracks() {
+        for slot in 0..geometry.sectors {
+            let sector = random.below(geometry.sectors + 2);
+            let flag = random.weighted(&[(60, 0), (8, 1), (14, 2), (14, 3), (4, 4)]);
+            let partner = random.below(geometry.tracks() + 1);
+            let mut id = geometry.id(track, sector, flag, partner);
+            if random.chance(4) {
+                id[random.size_below(4)] = random.byte();
+            }
+            image[geometry.slot(track, slot)][..ID].copy_from_slice(&id);
+        }
+    }
+}
+
+/// Changes one field of one slot, mostly slot 0, or of a whole track, or the label.
+fn damage(random: &mut Random, image: &mut [u8], geometry: &Geometry) {
+    let track = random.below(geometry.tracks());
+    match random.below(20) {
+        0 => {
+            let at = random.size_below(LABEL);
+            image[at] = random.byte();
+        }
+        1 => {
+            let moved_to_itself = geometry.id(track, 0, 2, track);
+            image[geometry.slot(track, 0)][..ID].copy_from_slice(&moved_to_itself);
+        }
+        2..=3 => {
+            let (field, value) = changed_field(random, geometry);
+            for slot in 0..geometry.sectors {
+                image[geometry.slot(track, slot).start + field] = value;
+            }
+        }
+        _ => {
+            let slot = if random.chance(50) { 0 } else { random.below(geometry.sectors) };
+            let (field, value) = changed_field(random, geometry);
+            image[geometry.slot(track, slot).start + field] = value;
+        }
+    }
+}
+
+/// A byte of a slot and what it becomes: mostly a value that means something there.
+fn changed_field(random: &mut Random, geometry: &Geometry) -> (usize, u8) {
+    let fields = [
+        (6, 0),
+        (4, 1),
+        (6, 2),
+        (8, 3),
+        (30, 4),
+        (26, 5),
+        (3, 6),
+        (14, 7),
+        (3, 8 + geometry.data - 1),
+    ];
+    let field = random.weighted(&fields);
+    let value = match field {
+        2 | 3 => random.below(3) as u8,
+        4 => random.below(geometry.sectors) as u8,
+        5 => random.below(6) as u8,
+        7 => random.below(geometry.tracks() + 2) as u8,
+        _ => random.byte(),
+    };
+    (field, if random.chance(5) { random.byte() } else { value })
+}

@@ -1,0 +1,112 @@
+//! The proved disk engine of a fitting console's controller card.
+//!
+//! A [`Controller`] is lent with two disk images to each call. Every call is proved for any record, block, data and images, of
+//! any bytes and lengths; borrowing rules out what the C header leaves to the caller.
+//!
+//! ```
+//! use lanthewg::Controller;
+//!
+//! let mut image0 = vec![0; 25_360];
+//! let mut image1 = vec![0; 25_360];
+//! let mut area = [0; 1_024];
+//! let mut card = Controller::fresh(&image0, &image1);
+//!
+//! // Test Ready fails on a drive without parameters, and Request Sense says why.
+//! let answer = card.execute(&[0, 0, 0, 0, 0, 0], &[], &mut area, &mut image0, &mut image1);
+//! assert_eq!((answer.number, answer.status), (0, 0x02));
+//! let answer = card.execute(&[3, 0, 0, 0, 0, 0], &[], &mut area, &mut image0, &mut image1);
+//! assert_eq!(answer.bytes, 4);
+//! assert_eq!(area[..4], [0x0A, 0, 0, 0]);
+//! ```
+
+/// What the card keeps of a drive. Its configuration is in force where it is known.
+#[repr(C)]
+#[derive(Clone, Copy, Debug, PartialEq, Eq)]
+pub struct Drive {
+    pub sense: [u8; 4],
+    pub config: [u8; 10],
+    pub known: bool,
+    pub pending: bool,
+}
+
+/// The controller's record.
+#[repr(C)]
+#[derive(Clone, Debug, PartialEq, Eq)]
+pub struct Controller {
+    pub buffer: [u8; 512],
+    pub drives: [Drive; 4],
+}
+
+/// What a call answers.
+#[repr(C)]
+#[derive(Clone, Copy, Debug, PartialEq, Eq)]
+pub struct Answer {
+    pub number: u8,
+    pub status: u8,
+    pub message: u8,
+    /// Sectors done.
+    pub sectors: u16,
+    /// Bytes handed over, at the front of the data area.
+    pub bytes: u32,
+}
+
+extern "C" {
+    fn lanthewg_fresh(c: *mut Controller, image0: *const u8, length0: usize, image1: *const u8, length1: usize);
+    fn lanthewg_reset(c: *mut Controller, image0: *const u8, length0: usize, image1: *const u8, length1: usize) -> Answer;
+    fn lanthewg_execute(
+        c: *mut Controller,
+        block: *const u8,
+        block_length: usize,
+        given: *const u8,
+        given_length: usize,
+        area: *mut u8,
+        area_length: usize,
+        image0: *mut u8,
+        length0: usize,
+        image1: *mut u8,
+        length1: usize,
+    ) -> Answer;
+}
+
+impl Controller {
+    /// A controller as it is after Reset: a valid label comes into force. An image under 16 bytes is an absent drive.
+    pub fn fresh(image0: &[u8], image1: &[u8]) -> Controller {
+        let blank = Drive { sense: [0; 4], config: [0; 10], known: false, pending: false };
+        let mut record = Controller { buffer: [0; 512], drives: [blank; 4] };
+        // SAFETY: each pointer leads to as many bytes as its length says.
+        unsafe { lanthewg_fresh(&mut record, image0.as_ptr(), image0.len(), image1.as_ptr(), image1.len()) };
+        record
+    }
+
+    pub fn reset(&mut self, image0: &[u8], image1: &[u8]) -> Answer {
+        // SAFETY: as above, and the record is lent to this call alone.
+        unsafe { lanthewg_reset(self, image0.as_ptr(), image0.len(), image1.as_ptr(), image1.len()) }
+    }
+
+    /// A command: its block, the data given with it, and the data area for what it hands over.
+    pub fn execute(
+        &mut self,
+        block: &[u8],
+        given: &[u8],
+        area: &mut [u8],
+        image0: &mut [u8],
+        image1: &mut [u8],
+    ) -> Answer {
+        // SAFETY: as above; what may change is lent to this call alone.
+        unsafe {
+            lanthewg_execute(
+                self,
+                block.as_ptr(),
+                block.len(),
+                given.as_ptr(),
+                given.len(),
+                area.as_mut_ptr(),
+                area.len(),
+                image0.as_mut_ptr(),
+                image0.len(),
+                image1.as_mut_ptr(),
+                image1.len(),
+            )
+        }
+    }
+}
