@@ -3,3 +3,4 @@ pub mod Parts
 pub mod Firsts
 pub mod Sames
 pub mod Copies
+pub mod Bools

@@ -12,6 +12,14 @@ use borrow.Rule.Slice.PartMut.{putMid, post-is}
 use Rattle.base.specs.Part.{part, splice, rows}
 
 -- ---- lengths
+pub length-none : (xs : List ℕ) → length xs ≡ 0 → xs ≡ []
+length-none [] e = refl
+length-none (x ∷ xs) e = absurd (omega arith)
+
+pub splice-none : (xs : List ℕ) → splice 0 [] xs ≡ xs
+unfolding splice
+splice-none xs = refl
+
 pub length-part : (at size : ℕ) (xs : List ℕ) → at + size ≤ length xs → length (part at size xs) ≡ size
 unfolding part
 length-part at size xs h = simp (length-take, length-drop) (omega arith)

@@ -29,7 +29,8 @@ use Rattle.model.specs.Checks.{on, judged}
 use Rattle.model.specs.Record.{bareOutcome, failedOutcome, goodOutcome}
 use Rattle.model.specs.Commands.{isBad, isMoved, isTaken, plainFill, madeAt, assignTests, assigned, assignAlternate}
 use Rattle.control.specs.Leaves.{silent}
-use Rattle.commands.proofs.Endings.{judged-hit, judged-on, passes-on, faulty-in, faulty-none, ends-refused, ends-faulty, ends-well}
+use Rattle.model.proofs.Judged.{judged-hit, judged-on, passed-on, fault-in, fault-none, passed-faulty}
+use Rattle.commands.proofs.Endings.{ends-refused, ends-faulty, ends-well}
 use Rattle.commands.proofs.Makings.{fill-lent}
 use Rattle.commands.proofs.Formats.{fill-is}
 
@@ -85,7 +86,7 @@ module _ (p : Params) (first : ℕ) (a alternate : Lba) (image : List ℕ) (verd
   pub passed-in : Within p → verdict ≡ Passed → trackOf p alternate .0 < trackCount p
   unfolding assignTests
   passed-in w e =
-      alternate-in p w alternate _ refl (ltb-false _ _ (passes-on _ _ _ _ (passes-on _ _ _ _ (sym ev ∙ e) .1) .0))
+      alternate-in p w alternate _ refl (ltb-false _ _ (passed-on _ _ _ _ Passed (passed-on _ _ _ _ Passed (sym ev ∙ e) .1) .0))
 
   -- a fault gives the block's address, or the alternate's, which is looked at only where the first byte is at most 1Fh
   pub fault-below : (m : ℕ) → a .0 < m → (first ≤ 0x1F → alternate .0 < m) → (code : ℕ) (at : Lba) → verdict ≡ Faulty code at
@@ -93,16 +94,16 @@ module _ (p : Params) (first : ℕ) (a alternate : Lba) (image : List ℕ) (verd
   unfolding assignTests
   fault-below m ha hb code at e =
       let P : ℕ → Lba → Type 0 = λ k l. (k < 0x80) × (l .0 < m) in
-      faulty-in P code at _ _ _ _ (omega arith, ha)
+      fault-in P code at Passed _ _ _ _ (omega arith, ha)
       (λ z.
       let h = hb (ltb-false _ _ z) in
-      faulty-in P code at _ _ _ _ (omega arith, h)
-      (λ _. faulty-in P code at _ _ _ _ (omega arith, ha)
-      (λ _. faulty-in P code at _ _ _ _ (omega arith, ha)
-      (λ _. faulty-in P code at _ _ _ _ (omega arith, ha)
-      (λ _. faulty-in P code at _ _ _ _ (omega arith, h)
-      (λ _. faulty-in P code at _ _ _ _ (omega arith, h)
-      (λ _. faulty-none P code at)))))))
+      fault-in P code at Passed _ _ _ _ (omega arith, h)
+      (λ _. fault-in P code at Passed _ _ _ _ (omega arith, ha)
+      (λ _. fault-in P code at Passed _ _ _ _ (omega arith, ha)
+      (λ _. fault-in P code at Passed _ _ _ _ (omega arith, ha)
+      (λ _. fault-in P code at Passed _ _ _ _ (omega arith, h)
+      (λ _. fault-in P code at Passed _ _ _ _ (omega arith, h)
+      (λ _. fault-none P code at Passed (λ z. absurd (passed-faulty code at z)))))))))
       (sym ev ∙ e)
 
 -- three bytes, of which the first is at most 1Fh, make an address of 21 bits

@@ -22,7 +22,8 @@ use Rattle.model.specs.declared.record.Outcome.{Outcome}
 use Rattle.model.specs.Record.{failedOutcome, goodOutcome}
 use Rattle.model.specs.Commands.{checkTests, checkTrack}
 use Rattle.control.specs.Leaves.{silent}
-use Rattle.commands.proofs.Endings.{judged-hit, judged-on, judged-none, ends-faulty, ends-well}
+use Rattle.model.proofs.Judged.{judged-hit, judged-on, judged-none}
+use Rattle.commands.proofs.Endings.{ends-faulty, ends-well}
 use Rattle.commands.proofs.Makings.{layout-lent}
 
 -- ---- every code of Check Track is below 80h

@@ -19,7 +19,8 @@ use Rattle.model.specs.Block.{fromBuffer}
 use Rattle.model.specs.Record.{driveAt, withDrive, failedOutcome, goodOutcome}
 use Rattle.model.specs.Commands.{isMoved, isTaken, plainFill, fillOf, madeAt, driveFormatted, settled, formatDrive, aloneTests, formatTrack}
 use Rattle.control.specs.Leaves.{silent}
-use Rattle.commands.proofs.Endings.{judged-hit, judged-on, judged-none, ends-faulty, ends-well}
+use Rattle.model.proofs.Judged.{judged-hit, judged-on, judged-none}
+use Rattle.commands.proofs.Endings.{ends-faulty, ends-well}
 use Rattle.commands.proofs.Makings.{fill-lent}
 
 -- a drive no longer pending

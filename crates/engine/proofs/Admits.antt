@@ -1,14 +1,13 @@
 -- What passed checks give to each command: what its function asks for.
 use Prim.Native.Nat.{ℕ, _+_, _*_, _≤_, _<_}
 use mathlib.Core.Path.{_≡_, refl, ap, subst, _∙_}
-use mathlib.Core.Bool.{Bool, true, false}
+use mathlib.Core.Bool.{true, false}
 use mathlib.Core.List.{List}
 use native.Mathlib.Omega.{arith}
 use lib.ListN.{length}
-use Rattle.base.specs.Pick.{pick}
 use Rattle.geometry.specs.declared.params.Params.{Params}
 use Rattle.geometry.specs.declared.config.Setting.{Setting}
-use Rattle.geometry.specs.declared.config.Setting.the-variants.{Valid, Invalid}
+use Rattle.geometry.specs.declared.config.Setting.the-variants.{Valid}
 use Rattle.geometry.specs.Params.{trackCount, trackOf}
 use Rattle.geometry.proofs.Settings.{setting-within}
 use Rattle.track.specs.declared.id.State.{State}
@@ -27,6 +26,7 @@ use Rattle.model.specs.Record.{driveAt, settingIn}
 use Rattle.model.specs.Engine.{viewOf}
 use Rattle.model.proofs.Checked.{opcodeFor, row-of, Cleared, cleared, given-enough, area-enough, interleave-in, track-cleared, count-cleared}
 use Rattle.engine.specs.Runs.{Admitted}
+use Rattle.model.proofs.Current.{setting-known}
 
 row : (b : Block) (command : Command) → entryOf (b .opcode) .command ≡ command → entryOf (b .opcode) ≡ entryOf (opcodeFor command)
 row b command is = row-of (b .opcode) ∙ ap (λ (k : Command). entryOf (opcodeFor k)) is
@@ -64,12 +64,6 @@ module _ {c : Controller} {b : Block} {given area size : ℕ} (ok : Admitted c b
   initialize-admits is = (ok .drive, ok .address, takes Initialize is)
 
 -- ---- parameters in force
--- they are of a configuration that is known
-known-setting : (known : Bool) (s : Setting) (p : Params) → pick known s Invalid ≡ Valid p → s ≡ Valid p
-unfolding pick
-known-setting true s p e = e
-known-setting false s p e = absurd (let z : _≡_ {A = ℕ} 0 1 = cc in omega arith)
-
 -- a command on the block's track, with an interleave
 abbrev pub OnTrack : Block → Params → (image : List ℕ) → Type 0
 OnTrack b p image =
@@ -81,7 +75,7 @@ module _ {c : Controller} {b : Block} {given area : ℕ} (image : List ℕ) {p :
   unfolding settingIn
   fits =
       let entry = driveAt c (b .drive) in
-      let w = setting-within (entry .config) (length image) p (known-setting (entry .known) _ p valid) in
+      let w = setting-within (entry .config) (length image) p (setting-known entry (length image) p valid) in
       record { within = w .0; long = w .1 }
 
   clear : (command : Command) → entryOf (b .opcode) .command ≡ command

@@ -1,14 +1,14 @@
 -- A command from its block to what it leaves: by the verdict of the order of checks, then put together for the drive named.
 use mathlib.Core.Path.{_≡_, refl, sym, ap, _∙_}
 use mathlib.Core.Bool.{Bool, true, false}
-use mathlib.Core.List.{List, [], _∷_, _++_}
+use mathlib.Core.List.{List, [], _++_}
 use Prim.Native.Nat.{ℕ, _<_}
 use native.Mathlib.Omega.{arith}
 use lib.ListN.{length}
 use lib.Dec.{eqb, leb}
 use borrow.Author.Tests.{eq-eqb, ne-eqb}
+use Rattle.base.proofs.Parts.{length-none, splice-none}
 use Rattle.base.specs.Pick.{pick}
-use Rattle.base.specs.Part.{splice}
 use Rattle.base.proofs.Decide.{pick-true, pick-false}
 use Rattle.geometry.specs.declared.params.Lba.{Lba}
 use Rattle.geometry.specs.declared.config.Setting.{Setting}
@@ -25,13 +25,14 @@ use Rattle.model.specs.declared.verdict.Verdict.{Verdict}
 use Rattle.model.specs.declared.verdict.Verdict.the-variants.{Refused, Faulty, Passed}
 use Rattle.model.specs.Block.{blockOf}
 use Rattle.model.specs.Table.{entryOf}
-use Rattle.model.specs.Checks.{Test, on, judged, View, presentWith, testsWith, tests, lengthsWith, judge}
+use Rattle.model.specs.Checks.{judged, View, presentWith, testsWith, tests, lengthsWith, judge}
 use Rattle.model.specs.Record.{driveAt, settingIn, bareOutcome, failedOutcome, Effect, refused, failed, unless}
 use Rattle.model.specs.Commands.{carryOut}
 use Rattle.model.specs.Engine.{viewOf, obey, imageOf, left, execute, Executed}
 use Rattle.control.specs.Limits.{Legal}
 use Rattle.control.specs.Leaves.{Left, leftNow, leftBy}
 use Rattle.engine.specs.Runs.{Admitted, Carried, Obeyed, resultNow}
+use Rattle.model.proofs.Judged.{fault-in, fault-none}
 
 -- ---- the row of a command
 pub command-of : (opcode : ℕ) (e : Entry) → e ≡ entryOf opcode → entryOf opcode .command ≡ e .command
@@ -58,18 +59,6 @@ pub setting-named : (c : Controller) (drive image : ℕ) (entry : Drive) (s : Se
     → settingIn (driveAt c drive) image ≡ s
 setting-named c drive image entry s ee es = rw (es, ee)
 
--- ---- the code and the address of a fault are a test's
-module _ (P : ℕ → Lba → Type 0) (k : ℕ) (l : Lba) where
-  fault-in : (hit : Bool) (code : ℕ) (at : Lba) (more : List Test) (after : Verdict) → P code at → (judged more after ≡ Faulty k l → P k l)
-      → judged (on hit code at ∷ more) after ≡ Faulty k l → P k l
-  unfolding judged pick
-  fault-in true code at more after h next e = let ek : code ≡ k = cc in let el : at ≡ l = cc in rw (← ek, ← el) h
-  fault-in false code at more after h next e = next e
-
-  fault-none : (after : Verdict) → (after ≡ Faulty k l → P k l) → judged [] after ≡ Faulty k l → P k l
-  unfolding judged
-  fault-none after h e = h e
-
 -- lengths give a refusal, never a fault
 short-refused : (short small : Bool) (k : ℕ) (l : Lba) → pick short (Refused 2) (pick small (Refused 3) Passed) ≡ Faulty k l → ⊥
 unfolding pick
@@ -87,17 +76,17 @@ module _ (e : Entry) (b : Block) (k : ℕ) (l : Lba) where
   unfolding testsWith
   fault-with pending Invalid after h = fault-none Own k l after h
   fault-with pending (Valid p) after h =
-      fault-in Own k l _ _ _ _ after (omega arith, refl)
-      (fault-in Own k l _ _ _ _ after (omega arith, refl) (fault-in Own k l _ _ _ _ after (omega arith, refl) (fault-none Own k l after h)))
+      fault-in Own k l after _ _ _ _ (omega arith, refl) (λ _.
+      fault-in Own k l after _ _ _ _ (omega arith, refl) (λ _. fault-in Own k l after _ _ _ _ (omega arith, refl) (λ _. fault-none Own k l after h)))
 
   fault-own : (v : View) (given area : ℕ) → judged (tests e b v) (lengthsWith e b (v .setting) given area) ≡ Faulty k l → Own k l
   unfolding tests lengthsWith
   fault-own v given area =
-      fault-in Own k l _ _ _ _ _ (omega arith, refl)
-      (fault-in Own k l _ _ _ _ _ (omega arith, refl)
-      (fault-in Own k l _ _ _ _ _ (omega arith, refl)
-      (fault-in Own k l _ _ _ _ _ (omega arith, refl)
-      (fault-with (v .pending) (v .setting) _ (λ z. absurd (short-refused _ _ k l z))))))
+      fault-in Own k l _ _ _ _ _ (omega arith, refl) (λ _.
+      fault-in Own k l _ _ _ _ _ (omega arith, refl) (λ _.
+      fault-in Own k l _ _ _ _ _ (omega arith, refl) (λ _.
+      fault-in Own k l _ _ _ _ _ (omega arith, refl) (λ _.
+      fault-with (v .pending) (v .setting) _ (λ z. absurd (short-refused _ _ k l z))))))
 
 -- ---- the verdict on a command
 module _ (b : Block) (view : View) (given area : ℕ) (verdict : Verdict) (is : verdict ≡ judge b view given area) where
@@ -121,10 +110,6 @@ pub admitted : (b : Block) (c : Controller) (image given area : ℕ) (verdict : 
 admitted b c image given area verdict hd ha is e = record { drive = hd; address = ha; passed = sym is ∙ e }
 
 -- ---- what is left by the verdict
-splice-none : (xs : List ℕ) → xs ≡ splice 0 [] xs
-unfolding splice
-splice-none xs = refl
-
 module _ (b : Block) (given : List ℕ) (c : Controller) (area image : List ℕ) (verdict : Verdict)
     (is : verdict ≡ judge b (viewOf (driveAt c (b .drive)) (length image)) (length given) (length area)) where
   obeyed-by : (choices : List ℕ)
@@ -143,12 +128,12 @@ module _ (b : Block) (given : List ℕ) (c : Controller) (area image : List ℕ)
   pub obey-refused : (outcome : Outcome) (number : ℕ) → verdict ≡ Refused number → outcome ≡ bareOutcome number c
       → Obeyed b given c area image (leftNow outcome area image)
   unfolding unless refused leftBy
-  obey-refused outcome number e eo = left-by [] _ (rw (e, eo, ← splice-none area))
+  obey-refused outcome number e eo = left-by [] _ (rw (e, eo, splice-none area))
 
   pub obey-failed : (outcome : Outcome) (code : ℕ) (at : Lba) → verdict ≡ Faulty code at → outcome ≡ failedOutcome (b .drive) code at 0 0 c
       → Obeyed b given c area image (leftNow outcome area image)
   unfolding unless failed leftBy
-  obey-failed outcome code at e eo = left-by [] _ (rw (e, eo, ← splice-none area))
+  obey-failed outcome code at e eo = left-by [] _ (rw (e, eo, splice-none area))
 
   pub obey-carried : (s : Setting) (l : Left) → verdict ≡ Passed → settingIn (driveAt c (b .drive)) (length image) ≡ s
       → Carried b s given c area image (entryOf (b .opcode) .command) l → Obeyed b given c area image l
@@ -166,10 +151,6 @@ left-put : (drive : ℕ) (effect : Effect) (area image0 image1 : List ℕ) (l : 
     ≡ left drive effect area image0 image1
 unfolding left leftBy
 left-put drive effect area image0 image1 l e = rw e
-
-empty : (xs : List ℕ) → length xs ≡ 0 → xs ≡ []
-empty [] e = refl
-empty (x ∷ xs) e = absurd (omega arith)
 
 module _ (c : Controller) (block given area image0 image1 : List ℕ) where
   pub execute-refused : (outcome : Outcome) → (length block ≡ 6 → ⊥) → outcome ≡ bareOutcome 1 c
@@ -206,4 +187,4 @@ module _ (c : Controller) (block given area image0 image1 : List ℕ) where
         let n₀ = ne-eqb (b .drive) 0 h₀ in
         let n₁ = ne-eqb (b .drive) 1 h₁ in
         executed [] (image ++ image0) image1 (rw (pick-false _ _ _ n₀, pick-false _ _ _ n₁))
-        (rw (empty image none, pick-false _ _ _ n₀)) (rw (pick-false _ _ _ n₁))
+        (rw (length-none image none, pick-false _ _ _ n₀)) (rw (pick-false _ _ _ n₁))

@@ -1,11 +1,12 @@
 -- What holds between two characters of the input: no slice has changed its length, the text has room for any answer, and the line under way fits.
+use mathlib.Core.Bool.{Bool, true, false, _||_, true≢false}
 use Prim.Native.Nat.{ℕ, _+_, _*_, _≤_, _<_}
 use mathlib.Core.Path.{_≡_, refl, _∙_, ap}
 use mathlib.Core.List.{List}
 use native.Mathlib.Omega.{arith}
 use lib.ListN.{length}
 use Rattle.hex.specs.declared.line.Line.{Line}
-use Rattle.hex.specs.Line.{Reading, lineNow, accepted, started}
+use Rattle.hex.specs.Line.{lineNow, accepted, started}
 use Rattle.hex.proofs.Rooms.{accepted-room}
 
 -- The line under way fits the slice of its bytes.
@@ -61,3 +62,9 @@ accepted-fits line r line′ bytes b bytes′ c h e l m =
     let count : r .count ≡ accepted (lineNow line bytes) c .line .count = ap (λ x. x .line .count) (e .0) in
     let long : length b ≡ length (accepted (lineNow line bytes) c .bytes) = ap (λ x. length (x .bytes)) (e .0) in
     rw (l, m) (e .1, omega (arith, count, long, accepted-room (lineNow line bytes) c h))
+
+-- where two tests fail, the third decides
+pub third : (a b x : Bool) → a ≡ false → b ≡ false → x ≡ (a || (b || x))
+third false false x ea eb = refl
+third false true x ea eb = absurd (true≢false eb)
+third true b x ea eb = absurd (true≢false ea)

@@ -6,8 +6,11 @@ use hex::line::accept;
 use hex::line::start;
 use lines::answer_line;
 use model::record::Controller;
+ghost use mathlib.Core.Path.{_≡_};
+ghost use mathlib.Core.Bool.{_||_};
 ghost use Prim.Native.Nat.{_+_, _*_, _≤_, _<_};
 ghost use lib.ListN.{length};
+ghost use lib.Dec.{ltb};
 
 const STDIN: i32 = 0;
 
@@ -73,7 +76,9 @@ fn feed(
 }
 
 // Whether any character of a line has been read.
-fn is_begun(line: Line) -> bool {
+fn is_begun(line: Line) -> bool
+    ensures { λ r. ⌜ r ≡ (line .bad || (line .half || ltb 0 (line .count))) ⌝ }
+{
     if line.bad {
         return true;
     }

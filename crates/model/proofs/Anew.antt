@@ -29,7 +29,7 @@ use Rattle.model.proofs.States.{split-zero, parted-zero, split-mirrored
 use Rattle.model.proofs.Remaking.{drive-remade, drive-length, drive-label}
 use Rattle.model.proofs.Agrees.{Stored, something, Drives, Agrees, Follows}
 use Rattle.model.proofs.Ends.{agree-drive, well-follows, verdict-follows}
-use Rattle.model.proofs.Checked.{passed-on}
+use Rattle.model.proofs.Judged.{passed-on}
 use Rattle.model.proofs.Current.{InForce, mirrored}
 use Rattle.model.proofs.Formats.{fill-same, fill-sized}
 

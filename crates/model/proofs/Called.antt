@@ -2,13 +2,14 @@
 use Prim.Native.Nat.{ℕ, _<_}
 use mathlib.Core.Path.{_≡_, refl, sym, subst, _∙_}
 use mathlib.Core.Bool.{Bool, true, false}
-use mathlib.Core.List.{List, [], _∷_}
+use mathlib.Core.List.{List, []}
 use native.Mathlib.Decide.{ℕ-discrete}
 use native.Mathlib.Nat.{mod-lt}
 use native.Mathlib.Omega.{arith}
 use lib.ListN.{length}
 use lib.Dec.{eqb}
 use borrow.Author.Tests.{eqb-true, ne-eqb}
+use Rattle.base.proofs.Parts.{length-none}
 use Rattle.base.specs.Pick.{pick}
 use Rattle.model.specs.declared.block.Block.{Block}
 use Rattle.model.specs.declared.record.Controller.{Controller}
@@ -24,18 +25,13 @@ use Rattle.model.proofs.Ends.{changed-same, changed-other, agree-images
 use Rattle.model.proofs.Obeyed.{obey-follows}
 use Rattle.model.proofs.Restarted.{agree-reset}
 
--- ---- the images that a command leaves
-no-bytes : (bytes : List ℕ) → length bytes ≡ 0 → bytes ≡ []
-no-bytes [] e = refl
-no-bytes (x ∷ bytes) e = absurd (omega arith)
-
 -- a drive's own image, and another's
 own-image : (first second : Bool) (after image0 image1 : List ℕ) → length after ≡ length (pick first image0 (pick second image1 []))
     → pick first (pick first after image0) (pick second (pick second after image1) []) ≡ after
 unfolding pick
 own-image true second after image0 image1 len = refl
 own-image false true after image0 image1 len = refl
-own-image false false after image0 image1 len = sym (no-bytes after len)
+own-image false false after image0 image1 len = sym (length-none after len)
 
 other-image : (first second own₀ own₁ : Bool) (after image0 image1 : List ℕ) → (first ≡ true → own₀ ≡ false) → (second ≡ true → own₁ ≡ false)
     → pick first (pick own₀ after image0) (pick second (pick own₁ after image1) []) ≡ pick first image0 (pick second image1 [])

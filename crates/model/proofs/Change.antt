@@ -5,32 +5,26 @@ use mathlib.Core.Logic.{_⊎_, inl, inr}
 use mathlib.Core.Bool.{Bool, true, false, _||_, true≢false, false≢true}
 use mathlib.Core.List.{List}
 use native.Mathlib.Omega.{arith}
-use native.Mathlib.Nat.{div-lt-iff-lt-mul, mod-lt}
 use lib.ListN.{length}
 use lib.Dec.{eqb}
 use borrow.Author.Tests.{eqb-true, eqb-false, ne-eqb}
+use Rattle.base.proofs.Bools.{or-off}
 use Rattle.geometry.specs.declared.params.Lba.{Lba}
 use Rattle.geometry.specs.declared.params.Track.{Track}
 use Rattle.geometry.specs.declared.params.Params.{Params}
 use Rattle.geometry.specs.Params.{Within, trackCount, trackOf, sectorOf}
 use Rattle.interleave.specs.Layout.{layoutOf}
-use Rattle.interleave.proofs.Layouts.{layout-length}
 use Rattle.interleave.proofs.Slots.{slotOf, slot-lt}
-use Rattle.track.specs.Id.{track}
 use Rattle.track.specs.Image.{trackBytes, slotId, slotData}
 use Rattle.track.specs.Format.{formatted}
-use Rattle.track.proofs.Formed.{Formed}
-use Rattle.track.proofs.Formats.{id-formatted, data-formatted}
+use Rattle.track.proofs.Formed.{Formed, format-forms, format-fills}
 use Rattle.model.specs.Machine.{Kind, stateless, sound, bad, moved, taken, Disk, isMoved, isTaken}
 use Rattle.model.specs.Claim.{isHeld}
 use Rattle.model.proofs.Mirrors.{stateFor, homeOf, Paired, Mirrors}
+use Rattle.model.proofs.Addresses.{same-track, track-in, sector-in}
 
 apart : _≡_ {A = ℕ} 0 1 → ⊥
 apart e = omega arith
-
--- A track is its number.
-pub track-is : (t u : Track) → t .0 ≡ u .0 → t ≡ u
-track-is t u e = ap track e
 
 -- What mirroring asks of one track.
 pub record TrackMirrors (p : Params) (u : Disk) (image : List ℕ) (t : Track) : Type 0 where
@@ -51,7 +45,7 @@ mirrors-by p w u image each past = record {
   past = past;
   moves = λ t v h. each t h .moves v;
   takes = λ t v h. each t h .takes v;
-  kept = λ a h. each (trackOf p a) (div-lt-iff-lt-mul (omega (arith, w .sectors-some)) .1 h) .kept a h refl;
+  kept = λ a h. each (trackOf p a) (track-in p w a h) .kept a h refl;
 }
 
 pub mirrors-at : (p : Params) (u : Disk) (image : List ℕ) → Mirrors p (u .kind) (u .inter) (u .held) image
@@ -113,9 +107,9 @@ pub not-partner : (p : Params) (u : Disk) (image : List ℕ) (t v w : Track) →
     → isMoved (u .kind w) ≡ false → isTaken (u .kind w) ≡ false → v .0 ≡ w .0 → ⊥
 unfolding isMoved isTaken
 not-partner p u image t v w was (inl e) m k is =
-    true≢false (sym (ap isTaken (ap (u .kind) (sym (track-is v w is)) ∙ was .moves v e .returned)) ∙ k)
+    true≢false (sym (ap isTaken (ap (u .kind) (sym (same-track v w is)) ∙ was .moves v e .returned)) ∙ k)
 not-partner p u image t v w was (inr e) m k is =
-    true≢false (sym (ap isMoved (ap (u .kind) (sym (track-is v w is)) ∙ was .takes v e .returned)) ∙ m)
+    true≢false (sym (ap isMoved (ap (u .kind) (sym (same-track v w is)) ∙ was .takes v e .returned)) ∙ m)
 
 -- ---- A track that is made anew
 -- Track t has a state, an interleave and the bytes of its format.
@@ -126,18 +120,15 @@ pub record Anew (p : Params) (u : Disk) (image : List ℕ) (t : Track) (κ : Kin
 
 module _ (p : Params) (w : Within p) (u : Disk) (image : List ℕ) (f : ℕ) (hf : (0 < f) × (f < p .sectors)) where
   module _ (t : Track) (κ : Kind) (fill : List ℕ) (lf : length fill ≡ p .size) (is : Anew p u image t κ f fill) where
-    long : length (layoutOf (p .sectors) f) ≡ p .sectors
-    long = layout-length (p .sectors) f (omega (arith, w .sectors-some))
+    some : 0 < p .sectors
+    some = omega (arith, w .sectors-some)
 
     forms : Formed p t (stateFor κ) f image
-    forms = record { ids = λ k h. ap (slotId p k) (is .bytes) ∙ id-formatted p t (stateFor κ) (layoutOf (p .sectors) f) fill long lf k h }
+    forms = format-forms p t (stateFor κ) f fill image some lf (is .bytes)
 
     -- the fill is in each sector's slot
     fills : (a : Lba) → slotData p (slotOf (p .sectors) f (sectorOf p a)) (trackBytes p t image) ≡ fill
-    fills a =
-        let l : sectorOf p a < p .sectors = mod-lt (a .0) (omega (arith, w .sectors-some)) in
-        ap (slotData p _) (is .bytes)
-        ∙ data-formatted p t (stateFor κ) (layoutOf (p .sectors) f) fill long lf (slotOf (p .sectors) f (sectorOf p a)) (slot-lt (p .sectors) f _ l)
+    fills a = format-fills p t (stateFor κ) f fill image some lf (is .bytes) (slotOf (p .sectors) f (sectorOf p a)) (slot-lt (p .sectors) f _ (sector-in p w a))
 
     track-anew : (κ ≡ stateless → ⊥) → ((v : Track) → κ ≡ moved v → Paired p (u .kind) (u .inter) t v (taken t))
         → ((v : Track) → κ ≡ taken v → Paired p (u .kind) (u .inter) t v (moved t))
@@ -205,10 +196,6 @@ module _ (p : Params) (w : Within p) (u u′ : Disk) (image image′ : List ℕ)
   pub mirrors-changed : Mirrors p (u′ .kind) (u′ .inter) (u′ .held) image′
   mirrors-changed = mirrors-by p w u′ image′ (λ t h. each t h _ refl) past
 
-pub or-false : (a b : Bool) → (a || b) ≡ false → (a ≡ false) × (b ≡ false)
-or-false true b e = absurd (true≢false e)
-or-false false b e = (refl, e)
-
 -- Two tracks, or one, made anew that were neither moved nor taken before: no other is their partner.
 module _ (p : Params) (w : Within p) (u u′ : Disk) (image image′ : List ℕ) (mirror : Mirrors p (u .kind) (u .inter) (u .held) image) (A B : Track)
     (mA : isMoved (u .kind A) ≡ false) (tA : isTaken (u .kind A) ≡ false) (mB : isMoved (u .kind B) ≡ false) (tB : isTaken (u .kind B) ≡ false)
@@ -219,8 +206,8 @@ module _ (p : Params) (w : Within p) (u u′ : Disk) (image image′ : List ℕ)
   new i = eqb i (A .0) || eqb i (B .0)
 
   anew-one : (t : Track) (a b : Bool) → eqb (t .0) (A .0) ≡ a → eqb (t .0) (B .0) ≡ b → (a || b) ≡ true → TrackMirrors p u′ image′ t
-  anew-one t true b ea eb e = rw (track-is t A (eqb-true _ _ ea)) anewA
-  anew-one t false true ea eb e = rw (track-is t B (eqb-true _ _ eb)) anewB
+  anew-one t true b ea eb e = rw (same-track t A (eqb-true _ _ ea)) anewA
+  anew-one t false true ea eb e = rw (same-track t B (eqb-true _ _ eb)) anewB
   anew-one t false false ea eb e = absurd (false≢true e)
 
   pub mirrors-but : Mirrors p (u′ .kind) (u′ .inter) (u′ .held) image′
@@ -232,6 +219,6 @@ module _ (p : Params) (w : Within p) (u u′ : Disk) (image image′ : List ℕ)
       mirrors-changed p w u u′ image image′ new
       (λ t h e. anew-one t _ _ refl refl e)
       (λ t h e. was t h)
-      (λ t h e. let z = or-false _ _ e in keeps t h (eqb-false _ _ (z .0)) (eqb-false _ _ (z .1)))
+      (λ t h e. let z = or-off _ _ e in keeps t h (eqb-false _ _ (z .0)) (eqb-false _ _ (z .1)))
       (λ t v h e is. rw (other t v A h is mA tA) (other t v B h is mB tB))
       (λ v h. past v h ∙ mirror .past v h)

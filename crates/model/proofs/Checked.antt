@@ -4,14 +4,13 @@ use mathlib.Core.Path.{_≡_, refl, sym, ap, subst, _∙_}
 use mathlib.Core.Logic.{_⊎_, inl, inr}
 use mathlib.Core.Bool.{Bool, true, false, not, _&&_, _||_, true≢false, false≢true}
 use mathlib.Core.List.{List, [], _∷_}
-use native.Mathlib.Nat.{div-lt-iff-lt-mul}
 use native.Mathlib.Omega.{arith}
 use lib.ListN.{getD}
 use lib.Dec.{ltb, eqb}
 use borrow.Author.Tests.{eqb-true, eqb-false, ltb-false}
+use Rattle.base.proofs.Bools.{or-off}
 use Rattle.base.specs.Pick.{pick}
 use Rattle.base.proofs.Decide.{pick-true, pick-false}
-use Rattle.geometry.specs.declared.params.Lba.{Lba}
 use Rattle.geometry.specs.declared.params.Params.{Params}
 use Rattle.geometry.specs.declared.config.Setting.{Setting}
 use Rattle.geometry.specs.declared.config.Setting.the-variants.{Valid}
@@ -25,7 +24,9 @@ use Rattle.model.specs.declared.verdict.Verdict.{Verdict}
 use Rattle.model.specs.declared.verdict.Verdict.the-variants.{Refused, Passed}
 use Rattle.model.specs.Block.{countOf}
 use Rattle.model.specs.Table.{table, unknown, entryOf}
-use Rattle.model.specs.Checks.{Test, on, judged, View, reach, testsWith, tests, bytesOf, lengthsWith, judge}
+use Rattle.model.specs.Checks.{judged, View, reach, testsWith, tests, bytesOf, lengthsWith, judge}
+use Rattle.model.proofs.Judged.{passed-on, passed-all}
+use Rattle.model.proofs.Addresses.{track-in}
 
 -- ---- a command has one row
 -- an opcode that has the command
@@ -62,18 +63,7 @@ row-of opcode =
     (also refl (also refl (also refl (also refl (also refl (also refl (also refl (also refl (also refl
     (also refl (also refl (also refl (also refl (also refl (also refl (also refl (also refl (also refl none)))))))))))))))))) refl opcode
 
--- ---- tests none of which hits
-pub passed-on : (hit : Bool) (code : ℕ) (at : Lba) (others : List Test) (after : Verdict) → judged (on hit code at ∷ others) after ≡ Passed
-    → (hit ≡ false) × (judged others after ≡ Passed)
-unfolding judged pick
-passed-on false code at others after e = (refl, e)
-passed-on true code at others after e = absurd (let z : _≡_ {A = ℕ} 0 1 = cc in omega arith)
-
-passed-all : (all : List Test) (after : Verdict) → judged all after ≡ Passed → after ≡ Passed
-unfolding judged
-passed-all [] after e = e
-passed-all (test ∷ others) after e = passed-all others after (passed-on (test .hit) (test .code) (test .at) others after e .1)
-
+-- ---- what comes after the tests
 not-refused : (short : Bool) (number : ℕ) (after : Verdict) → pick short (Refused number) after ≡ Passed → short ≡ false
 unfolding pick
 not-refused false number after e = refl
@@ -87,10 +77,6 @@ past-refused true number after e = absurd (let z : _≡_ {A = ℕ} 0 1 = cc in o
 and-off : (a b : Bool) → a ≡ true → (a && b) ≡ false → b ≡ false
 and-off true b e h = h
 and-off false b e h = absurd (false≢true e)
-
-pub or-off : (a b : Bool) → (a || b) ≡ false → (a ≡ false) × (b ≡ false)
-or-off false b h = (refl, h)
-or-off true b h = absurd (true≢false h)
 
 -- ---- what has passed, with parameters p
 pub record Cleared (e : Entry) (b : Block) (p : Params) (pending : Bool) (given : ℕ) : Type 0 where
@@ -169,9 +155,6 @@ count-some b = by (eqb (b .extra) 0) refl
     by true e = rw (e, pick-true true 256 (b .extra) refl) (omega arith)
     by false e = rw (e, pick-false false 256 (b .extra) refl) (let ne = eqb-false (b .extra) 0 e in omega arith)
 
-pub track-in : (p : Params) (a : Lba) → Within p → a .0 < trackCount p * p .sectors → trackOf p a .0 < trackCount p
-track-in p a w h = let some : 0 < p .sectors = omega (arith, w .sectors-some) in div-lt-iff-lt-mul some .1 h
-
 -- a command on one track: settled, its track on the drive, its interleave good
 pub record OneTrack (b : Block) (p : Params) (pending : Bool) : Type 0 where
   pub calm : pending ≡ false
@@ -183,7 +166,7 @@ module _ {e : Entry} {b : Block} {p : Params} {pending : Bool} {given : ℕ} (w 
   unfolding reach
   track-cleared flag once =
       let one : reach e b ≡ 1 = pick-false (e .counted) (countOf b) 1 once in
-      track-in p (b .address) w (omega (arith, one, reach-in w clear flag (omega (arith, one))))
+      track-in p w (b .address) (omega (arith, one, reach-in w clear flag (omega (arith, one))))
 
   pub count-cleared : e .address ≡ true → e .counted ≡ true → b .address .0 + countOf b ≤ trackCount p * p .sectors
   unfolding reach

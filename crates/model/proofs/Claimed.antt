@@ -6,7 +6,6 @@ use mathlib.Core.Option.{Option, some}
 use mathlib.Core.List.{List, _∷_, map}
 use native.Mathlib.Omega.{arith}
 use native.Mathlib.Decide.{decLt}
-use native.Mathlib.Nat.{div-lt-iff-lt-mul}
 use lib.ListN.{length}
 use Rattle.base.specs.Pick.{pick}
 use Rattle.geometry.specs.declared.params.Lba.{Lba}
@@ -29,9 +28,10 @@ use Rattle.model.proofs.Finding.{Found, goes, stops, found-by}
 use Rattle.model.proofs.Agrees.{Stored, nothing, something, Agrees}
 use Rattle.model.proofs.Restarted.{agree-fresh}
 use Rattle.model.proofs.Called.{call-answered}
+use Rattle.model.proofs.Addresses.{track-of-drive}
 
 -- ---- what is held is found
-held-passed : (kind : Kind) (a : Lba) → isHeld kind ≡ true → judged (denied kind a) Passed ≡ Passed
+pub held-passed : (kind : Kind) (a : Lba) → isHeld kind ≡ true → judged (denied kind a) Passed ≡ Passed
 unfolding isHeld judged denied isBad isTaken pick
 held-passed stateless a e = absurd (false≢true e)
 held-passed sound a e = refl
@@ -54,7 +54,7 @@ unfolding isHeld
 held-inside p w kind past a held = by (decLt (trackOf p a .0) (trackCount p))
   where
     by : Dec (trackOf p a .0 < trackCount p) → a .0 < trackCount p * p .sectors
-    by (yes h) = let some : 0 < p .sectors = omega (arith, w .sectors-some) in div-lt-iff-lt-mul some .0 h
+    by (yes h) = track-of-drive p w a h
     by (no h) = absurd (false≢true (sym (ap isHeld (past (trackOf p a) (omega (arith, h)))) ∙ held))
 
 stored-holds : (u : Disk) (image : List ℕ) {o : Option (List ℕ)} → Stored u image o → (config : List ℕ) → o ≡ some config

@@ -50,6 +50,10 @@ unfolding pick
 known-valid true config len p e = (refl, e)
 known-valid false config len p e = absurd (let z : _≡_ {A = ℕ} 0 1 = cc in omega arith)
 
+pub setting-known : (entry : Drive) (image : ℕ) (p : Params) → settingIn entry image ≡ Valid p → settingOf (entry .config) image ≡ Valid p
+unfolding settingIn
+setting-known entry image p e = known-valid (entry .known) (entry .config) image p e .1
+
 pub label-same : (image after : List ℕ) → KeepsLabel image after → labelSetting after ≡ labelSetting image
 unfolding labelSetting
 label-same image after keeps = rw (keeps .label 10 6 (omega arith), keeps .label 0 10 (omega arith), keeps .len)

@@ -3,7 +3,6 @@ use Prim.Native.Nat.{ℕ, _*_, _<_, _≤_}
 use mathlib.Core.Path.{_≡_, refl, sym, ap, _∙_, subst}
 use mathlib.Core.List.{List}
 use native.Mathlib.Omega.{arith}
-use native.Mathlib.Nat.{div-lt-iff-lt-mul, mod-lt}
 use lib.ListN.{length}
 use Rattle.base.specs.Pick.{pick}
 use Rattle.geometry.specs.declared.params.Lba.{Lba}
@@ -15,7 +14,6 @@ use Rattle.track.specs.declared.id.State.the-variants.{Sound, Bad, Moved, Taken
 use Rattle.track.specs.declared.find.Sector.the-variants.{Slot, Fault}
 use Rattle.track.specs.Image.{trackBytes, slotData}
 use Rattle.track.specs.Find.{sectorFound}
-use Rattle.track.specs.Id.{track}
 use Rattle.track.proofs.Formed.{Formed, found-sound, found-moved, found-bad, found-taken}
 use Rattle.model.specs.declared.verdict.Verdict.the-variants.{Faulty, Passed}
 use Rattle.model.specs.Checks.{judged}
@@ -23,6 +21,7 @@ use Rattle.model.specs.Machine.{Kind, stateless, sound, bad, moved, take
 use Rattle.model.specs.Claim.{isHeld}
 use Rattle.model.proofs.Mirrors.{stateFor, homeOf, Mirrors}
 use mathlib.Core.Bool.{true, false≢true}
+use Rattle.model.proofs.Addresses.{track-in, sector-in, same-track}
 
 -- Either the machine uses its bytes and finding gives the slot that has them, or both give one code.
 pub data Found (p : Params) (kind : Track → Kind) (inter : Track → ℕ) (held : Lba → List ℕ) (image : List ℕ) (a : Lba) (choice : ℕ) : Type 0 where
@@ -33,18 +32,6 @@ pub data Found (p : Params) (kind : Track → Kind) (inter : Track → ℕ) (hel
       → Found p kind inter held image a choice
   stops : (code : ℕ) → (code ≡ 0 → ⊥) → judged (denied (kind (trackOf p a)) a) Passed ≡ Faulty code a
       → sectorFound choice p (trackOf p a) (sectorOf p a) image ≡ Fault code → Found p kind inter held image a choice
-
--- An address of the drive is on one of its tracks, in one of its sectors.
-module _ (p : Params) (w : Within p) (a : Lba) where
-  pub track-in : a .0 < trackCount p * p .sectors → trackOf p a .0 < trackCount p
-  track-in h = let some : 0 < p .sectors = omega (arith, w .sectors-some) in div-lt-iff-lt-mul some .1 h
-
-  pub sector-in : sectorOf p a < p .sectors
-  sector-in = mod-lt (a .0) (omega (arith, w .sectors-some))
-
--- Tracks of one number are one.
-pub same-track : (t v : Track) → t .0 ≡ v .0 → t ≡ v
-same-track t v e = ap track e
 
 -- ---- what a track's kind says by itself
 module _ (t : Track) (a : Lba) (state : Kind) where

@@ -30,7 +30,9 @@ use Rattle.model.proofs.Remaking.{Remade, sound-remade, bad-remade, ass
 use Rattle.model.proofs.Passages.{OnlyHeld}
 use Rattle.model.proofs.Agrees.{Agrees, Follows}
 use Rattle.model.proofs.Ends.{agree-disk, well-follows, done-follows, verdict-follows}
-use Rattle.model.proofs.Checked.{passed-on, or-off, track-in}
+use Rattle.base.proofs.Bools.{or-off}
+use Rattle.model.proofs.Judged.{passed-on}
+use Rattle.model.proofs.Addresses.{track-in}
 use Rattle.model.proofs.Current.{InForce, mirrored, drive-again}
 
 -- ---- the fill
@@ -155,5 +157,5 @@ module _ (image : ℕ → List ℕ) (b : Block) (area : List ℕ) (c : Controlle
         let free = assignable (u .kind) p (byte given 0) (b .address) (alternateOf given) e in
         remade-follows (assignTo p A B (b .extra) (filling b p m) u) _ (assign-only p A B (b .extra) (filling b p m) u)
         (assign-remade b p (force .within) inter (filling b p m) (fill-sized b p c image m agree (force .within)) u (image (b .drive)) (force .fits) mirror
-        A B ours (track-in p (alternateOf given) (force .within) (free .inside)) (free .apart)
+        A B ours (track-in p (force .within) (alternateOf given) (free .inside)) (free .apart)
         (free .movedA) (free .takenA) (free .takenB) (free .movedB))))

@@ -1,3 +1,5 @@
+pub mod Judged
+pub mod Addresses
 pub mod Mirrors
 pub mod Finding
 pub mod States

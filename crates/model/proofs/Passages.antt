@@ -7,7 +7,7 @@ use native.Mathlib.Nat.{zero-add}
 use lib.ListN.{length, take, drop, getD, length-append, length-drop}
 use lib.Seq.{length-take-le, drop-append-add, drop-drop}
 use Rattle.base.specs.Part.{splice}
-use Rattle.base.proofs.Parts.{length-splice}
+use Rattle.base.proofs.Parts.{length-splice, splice-none}
 use Rattle.geometry.specs.declared.params.Lba.{Lba}
 use Rattle.geometry.specs.declared.params.Track.{Track}
 use Rattle.geometry.specs.declared.params.Params.{Params}
@@ -46,10 +46,6 @@ pub record OnlyHeld (u v : Disk) : Type 0 where
 leave-one : (sector buffer : List ℕ) → splice 0 sector buffer ≡ sector ++ drop (length sector) buffer
 unfolding splice
 leave-one sector buffer = rw zero-add
-
-leave-none : (buffer : List ℕ) → splice 0 [] buffer ≡ buffer
-unfolding splice
-leave-none buffer = refl
 
 -- a sector that is no shorter covers the one before
 leave-again : (sector last buffer : List ℕ) → length last ≤ length sector
@@ -118,7 +114,7 @@ went-together p n a image r y w =
       most = w .most;
       done = sym e;
       bytes = w .bytes;
-      buffer = λ b l. w .buffer b ∙ ap (leaving (y .sectors)) (leave-none b);
+      buffer = λ b l. w .buffer b ∙ ap (leaving (y .sectors)) (splice-none b);
       room = λ b l. length-splice 0 (r .last) b (omega (arith, w .short));
       ended = rw e at (w .ended);
     }

@@ -4,15 +4,14 @@ use mathlib.Core.Path.{_≡_, refl, sym, ap, _∙_}
 use mathlib.Core.Bool.{Bool, true, false}
 use mathlib.Core.Option.{Option, none, some}
 use mathlib.Core.List.{List, []}
-use lib.ListN.{length, take, replicate, length-replicate}
+use lib.ListN.{length, replicate, length-replicate}
 use lib.Dec.{eqb, eqb·suc-zero, eqb·suc-suc}
 use Rattle.base.specs.Pick.{pick}
 use Rattle.base.specs.Part.{part}
 use Rattle.base.specs.Same.{sameBytes}
 use Rattle.geometry.specs.declared.params.Params.{Params}
-use Rattle.geometry.specs.declared.config.Setting.{Setting}
 use Rattle.geometry.specs.declared.config.Setting.the-variants.{Valid, Invalid}
-use Rattle.geometry.specs.Config.{byte, settingBy, settingOf, labelConfig, labelSetting}
+use Rattle.geometry.specs.Config.{labelConfig, labelSetting}
 use Rattle.model.specs.declared.record.Drive.{Drive}
 use Rattle.model.specs.declared.record.Controller.{Controller}
 use Rattle.model.specs.Calls.{reset}

@@ -1,5 +1,5 @@
 -- Where an image mirrors the machine, the commands' own checks go as the machine's do.
-use Prim.Native.Nat.{ℕ, zero, suc, _*_, _-_, _<_, _≤_}
+use Prim.Native.Nat.{ℕ, zero, suc, _*_, _-_, _<_}
 use mathlib.Core.Path.{_≡_, refl, sym, ap, _∙_}
 use mathlib.Core.Bool.{Bool, true, false, not, _&&_, _||_}
 use mathlib.Core.Logic.{_⊎_, inl, inr}
@@ -9,7 +9,8 @@ use native.Mathlib.Omega.{arith}
 use native.Mathlib.Decide.{decLt, ℕ-discrete}
 use native.Mathlib.Nat.{eq-or-lt-of-le, le-of-suc-le-suc}
 use lib.Dec.{eqb, ltb, leb}
-use borrow.Author.Tests.{eq-eqb, ne-eqb, lt-ltb, le-ltb, le-leb, lt-leb}
+use borrow.Author.Tests.{eq-eqb, ne-eqb, lt-ltb, le-ltb}
+use Rattle.base.proofs.Bools.{leb-not}
 use Rattle.base.specs.Pick.{pick}
 use Rattle.base.specs.First.{firstBelow, someBelow}
 use Rattle.base.proofs.Firsts.{first-some, first-none, none-first, some-hit, some-none}
@@ -30,17 +31,11 @@ use Rattle.model.specs.Checks.{Test, on, judged}
 use Rattle.model.specs.Commands.{isBad as badState, isMoved as movedState, isTaken as takenState, checkTests, aloneTests, assignTests}
 use Rattle.model.specs.Machine.{Kind, stateless, sound, bad, moved, taken, isBad, isMoved, isTaken, denied, paired, parted, partedBy, someParted, unassignable}
 use Rattle.model.proofs.Mirrors.{stateFor, Mirrors}
-use Rattle.model.proofs.Finding.{track-in, same-track, sound-formed, bad-formed, moved-formed, taken-formed}
+use Rattle.model.proofs.Finding.{sound-formed, bad-formed, moved-formed, taken-formed}
+use Rattle.model.proofs.Addresses.{track-in, same-track}
 
 -- ---- pairs that are split
 -- at most is not above
-leb-not : (a b : ℕ) → leb a b ≡ not (ltb b a)
-leb-not a b = by (decLt b a)
-  where
-    by : Dec (b < a) → leb a b ≡ not (ltb b a)
-    by (yes h) = rw (lt-ltb b a h, lt-leb a b h)
-    by (no h) = let l : a ≤ b = omega arith in rw (le-ltb b a l, le-leb a b l)
-
 one-of : (a b : Bool) → ((a && not b) || (not a && b)) ≡ ((a && not b) || (b && not a))
 one-of true true = refl
 one-of true false = refl

@@ -23,7 +23,8 @@ use Rattle.track.proofs.SameIds.{SameIds, data-keeps}
 use Rattle.model.specs.Machine.{Kind}
 use Rattle.model.specs.Claim.{isHeld}
 use Rattle.model.proofs.Mirrors.{homeOf, Mirrors, KeepsLabel}
-use Rattle.model.proofs.Finding.{track-in, sector-in, home-ours, home-apart}
+use Rattle.model.proofs.Finding.{home-ours, home-apart}
+use Rattle.model.proofs.Addresses.{track-in, sector-in}
 
 -- a slot's data are D bytes
 pub length-data : (p : Params) (k : ℕ) (bytes : List ℕ) → length bytes ≡ trackSize p → k < p .sectors → length (slotData p k bytes) ≡ p .size

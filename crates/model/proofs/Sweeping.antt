@@ -9,6 +9,7 @@ use native.Mathlib.Decide.{ℕ-discrete}
 use lib.ListN.{length}
 use lib.Dec.{leb, ltb}
 use borrow.Author.Tests.{le-ltb, leb-true, leb-false, lt-ltb, le-leb, lt-leb}
+use Rattle.base.proofs.Bools.{or-off}
 use Rattle.base.specs.Part.{part, splice}
 use Rattle.base.proofs.Decide.{pick-true, pick-false}
 use Rattle.base.proofs.Parts.{length-splice, part-same, part-after}
@@ -24,7 +25,7 @@ use Rattle.track.specs.Format.{soundFrom}
 use Rattle.track.proofs.Sounds.{length-sound, sound-before, sound-in}
 use Rattle.model.specs.Machine.{Kind, stateless, sound, Disk, parted, partedBy, someParted, fromOn, reformatted}
 use Rattle.model.proofs.Mirrors.{stateFor, Mirrors}
-use Rattle.model.proofs.Change.{Partner, Keeps, Anew, or-false, mirrors-at, sound-anew, mirrors-changed}
+use Rattle.model.proofs.Change.{Partner, Keeps, Anew, mirrors-at, sound-anew, mirrors-changed}
 
 -- ---- No pair is split: the partner of a track below s is below s
 none-parted : (kind : Track → Kind) (s n : ℕ) (t : Track) → someParted kind s n ≡ false → t .0 < n → partedBy s (t .0) (kind t) ≡ false
@@ -33,7 +34,7 @@ none-parted kind s zero t e h = absurd (omega arith)
 none-parted kind s (suc n) t e h = by (ℕ-discrete (t .0) n) (λ l. none-parted kind s n t (neither .1) l)
   where
     neither : (partedBy s n (kind (track n)) ≡ false) × (someParted kind s n ≡ false)
-    neither = or-false (partedBy s n (kind (track n))) (someParted kind s n) e
+    neither = or-off (partedBy s n (kind (track n))) (someParted kind s n) e
 
     by : Dec (t .0 ≡ n) → (t .0 < n → partedBy s (t .0) (kind t) ≡ false) → partedBy s (t .0) (kind t) ≡ false
     by (yes z) ih = ap (λ (i : ℕ). partedBy s i (kind (track i))) z ∙ neither .0
@@ -42,7 +43,7 @@ none-parted kind s (suc n) t e h = by (ℕ-discrete (t .0) n) (λ l. none-parted
 not-parted : (s t v : ℕ) → parted s t v ≡ false → t < s → v < s
 unfolding parted
 not-parted s t v e h =
-    let whole : (ltb t s && leb s v) ≡ false = or-false (ltb t s && leb s v) (ltb v s && leb s t) e .0 in
+    let whole : (ltb t s && leb s v) ≡ false = or-off (ltb t s && leb s v) (ltb v s && leb s t) e .0 in
     leb-false s v (rw (lt-ltb t s h) at whole)
 
 partner-below : (kind : Track → Kind) (s n : ℕ) (t v : Track) → someParted kind s n ≡ false → t .0 < n → t .0 < s → Partner kind t v → v .0 < s

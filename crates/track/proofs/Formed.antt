@@ -3,7 +3,7 @@ use mathlib.Core.Path.{_≡_, refl, sym, ap, _∙_}
 use mathlib.Core.Bool.{Bool, true, false, _&&_, true≢false}
 use mathlib.Core.Option.{Option, none, some}
 use mathlib.Core.List.{List}
-use Prim.Native.Nat.{ℕ, _≤_, _<_}
+use Prim.Native.Nat.{ℕ, _<_}
 use native.Mathlib.Omega.{arith}
 use native.Mathlib.Decide.{ℕ-discrete}
 use lib.ListN.{length, getD}
@@ -17,7 +17,7 @@ use Rattle.base.proofs.Firsts.{first-some, first-none, every-true, every-at}
 use Rattle.base.proofs.Sames.{same-self, same-eq}
 use Rattle.geometry.specs.declared.params.Params.{Params}
 use Rattle.geometry.specs.declared.params.Track.{Track}
-use Rattle.geometry.specs.Params.{trackCount, imageLength}
+use Rattle.geometry.specs.Params.{trackCount}
 use Rattle.interleave.specs.Layout.{layoutOf}
 use Rattle.interleave.proofs.Layouts.{layout-length}
 use Rattle.interleave.proofs.Slots.{sectorAt, slotOf, slot-lt, sector-slot, slot-sector, slot-one}
@@ -26,34 +26,30 @@ use Rattle.track.specs.declared.id.State.{State}
 use Rattle.track.specs.declared.id.State.the-variants.{Sound, Bad, Moved, Taken}
 use Rattle.track.specs.declared.find.Where.the-variants.{On, Off}
 use Rattle.track.specs.declared.find.Sector.the-variants.{Slot, Fault}
-use Rattle.track.specs.Id.{track, flagOf, partnerOf, idBytes, idIn, idFor}
-use Rattle.track.specs.Image.{trackBytes, withTrack, slotId, slotData, firstId}
+use Rattle.track.specs.Id.{flagOf, partnerOf, idBytes, idIn, idFor}
+use Rattle.track.specs.Image.{trackBytes, slotId, slotData, firstId}
 use Rattle.track.specs.Format.{withSector, formatted}
 use Rattle.track.specs.Find.{takenBy, whereBy, whereOf, holds, slotUsed, sectorIn, sectorFrom, sectorFound}
 use Rattle.track.specs.Check.{idIs, idsAre, homeState, checkedOn, checkCode}
 use Rattle.track.specs.Pair.{stateBy, stateOf}
 use Rattle.track.proofs.Ids.{id-back, own-for, sector-for}
-use Rattle.track.proofs.Images.{track-same}
-use Rattle.track.proofs.Formats.{length-formatted, id-formatted, data-formatted}
+use Rattle.track.proofs.Formats.{id-formatted, data-formatted}
 
 -- every slot of track t has the ID that a format with this state and interleave writes there
 pub record Formed (p : Params) (t : Track) (state : State) (f : ℕ) (image : List ℕ) : Type 0 where
   pub ids : (k : ℕ) → k < p .sectors → slotId p k (trackBytes p t image) ≡ idBytes (idFor p t state (sectorAt (p .sectors) f k))
 
--- ---- a format makes such a track, with its fill in every slot
-module _ (p : Params) (t : Track) (state : State) (f : ℕ) (fill image : List ℕ) (some-sector : 0 < p .sectors) (lf : length fill ≡ p .size)
-    (fits : imageLength p ≤ length image) (ours : t .0 < trackCount p) where
+-- ---- a track that has the bytes of a format is such a track, with the fill in every slot
+module _ (p : Params) (t : Track) (state : State) (f : ℕ) (fill image : List ℕ) (some-sector : 0 < p .sectors) (lf : length fill ≡ p .size) where
   long : length (layoutOf (p .sectors) f) ≡ p .sectors
   long = layout-length (p .sectors) f some-sector
 
-  made : trackBytes p t (withTrack p t (formatted p t state (layoutOf (p .sectors) f) fill) image) ≡ formatted p t state (layoutOf (p .sectors) f) fill
-  made = track-same p image fits t (formatted p t state (layoutOf (p .sectors) f) fill) ours (length-formatted p t state (layoutOf (p .sectors) f) fill long lf)
+  module _ (made : trackBytes p t image ≡ formatted p t state (layoutOf (p .sectors) f) fill) where
+    pub format-forms : Formed p t state f image
+    format-forms = record { ids = λ k h. ap (slotId p k) made ∙ id-formatted p t state (layoutOf (p .sectors) f) fill long lf k h }
 
-  pub format-forms : Formed p t state f (withTrack p t (formatted p t state (layoutOf (p .sectors) f) fill) image)
-  format-forms = record { ids = λ k h. ap (slotId p k) made ∙ id-formatted p t state (layoutOf (p .sectors) f) fill long lf k h }
-
-  pub format-fills : (k : ℕ) → k < p .sectors → slotData p k (trackBytes p t (withTrack p t (formatted p t state (layoutOf (p .sectors) f) fill) image)) ≡ fill
-  format-fills k h = ap (slotData p k) made ∙ data-formatted p t state (layoutOf (p .sectors) f) fill long lf k h
+    pub format-fills : (k : ℕ) → k < p .sectors → slotData p k (trackBytes p t image) ≡ fill
+    format-fills k h = ap (slotData p k) made ∙ data-formatted p t state (layoutOf (p .sectors) f) fill long lf k h
 
 -- ---- slot 0
 pub first-formed : (p : Params) (t : Track) (state : State) (f : ℕ) (image : List ℕ) → 0 < p .sectors → Formed p t state f image

@@ -1,12 +1,11 @@
 -- Laws of pairs: which of two tracks is below a third, and the loop over the tracks.
 use mathlib.Core.Path.{_≡_, refl, sym, _∙_}
-use mathlib.Core.Bool.{Bool, true, false, not, _||_}
+use mathlib.Core.Bool.{Bool, true, false, _||_}
 use mathlib.Core.List.{List}
 use Prim.Native.Nat.{ℕ, _+_, _≤_, _<_}
-use native.Mathlib.Omega.{arith}
-use native.Mathlib.Decide.{decLt}
 use lib.Dec.{ltb, leb}
-use borrow.Author.Tests.{lt-ltb, le-ltb, lt-leb, le-leb}
+use borrow.Author.Tests.{lt-ltb, le-ltb}
+use Rattle.base.proofs.Bools.{leb-not}
 use Rattle.base.proofs.Firsts.{Sought, sought-none, sought-hit, sought-more, sought-all, some-hit, some-none}
 use Rattle.geometry.specs.declared.params.Params.{Params}
 use Rattle.geometry.specs.declared.params.Track.{Track}
@@ -14,14 +13,6 @@ use Rattle.geometry.specs.Params.{trackCount}
 use Rattle.track.specs.declared.id.State.{State}
 use Rattle.track.specs.Id.{track}
 use Rattle.track.specs.Pair.{stateOf, oneBelow, splits, pairSplit}
-
--- at most is not above
-leb-not : (a b : ℕ) → leb a b ≡ not (ltb b a)
-leb-not a b = by (decLt b a)
-  where
-    by : Dec (b < a) → leb a b ≡ not (ltb b a)
-    by (yes h) = rw (lt-ltb b a h, lt-leb a b h)
-    by (no h) = let l : a ≤ b = omega arith in rw (le-ltb b a l, le-leb a b l)
 
 or-false : (b : Bool) → b ≡ (b || false)
 or-false true = refl

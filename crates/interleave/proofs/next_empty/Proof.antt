@@ -1,8 +1,7 @@
 use borrow.Author.Needs.{needs}
 use native.Mathlib.Omega.{arith}
-use Prim.Native.Nat.{_≤_, _<_, _%_, _+_}
+use Prim.Native.Nat.{_≤_, _<_, _+_}
 use mathlib.Core.Path.{_≡_, sym, _∙_}
-use lib.ListN.{length, getD}
 use native.Mathlib.Nat.{mod-lt}
 use Rattle.interleave.specs.Layout.{emptyFrom}
 use Rattle.interleave.proofs.Layouts.{look-here, look-on, look-none}

@@ -15,7 +15,6 @@ use Rattle.geometry.specs.declared.params.Params.{Params}
 use Rattle.geometry.specs.declared.config.Setting.{Setting}
 use Rattle.geometry.specs.declared.config.Setting.the-variants.{Valid, Invalid}
 use Rattle.geometry.specs.Params.{Within, trackCount, imageLength, trackOf, lastAddress}
-use Rattle.geometry.specs.Config.{settingOf}
 use Rattle.geometry.proofs.Settings.{setting-within, setting-ten}
 use Rattle.geometry.proofs.Sizes.{sectors-some}
 use Rattle.interleave.specs.Layout.{layoutOf}
@@ -28,7 +27,6 @@ use Rattle.model.specs.declared.block.Block.{Block}
 use Rattle.model.specs.declared.table.Command.{Command}
 use Rattle.model.specs.declared.table.Command.the-variants.{TestReady, Recalibrate, RequestSense, FormatDrive, CheckTrack, FormatTrack, FormatBadTrack, Read, Write, Seek, AssignAlternate, WriteBuffer, ReadBuffer, Initialize, Unknown}
 use Rattle.model.specs.declared.table.Entry.{Entry}
-use Rattle.model.specs.declared.record.Drive.{Drive}
 use Rattle.model.specs.declared.record.Controller.{Controller}
 use Rattle.model.specs.declared.verdict.Verdict.{Verdict}
 use Rattle.model.specs.declared.verdict.Verdict.the-variants.{Refused, Faulty, Passed}
@@ -40,9 +38,12 @@ use Rattle.model.specs.Transfer.{Transfer, begun, ended, readSlot, onwar
 use Rattle.model.specs.Commands.{requestSense, plainFill, fillOf, madeAt, driveFormatted, formatDrive, checkTrack, formatTrack}
 use Rattle.model.specs.Commands.{read, write, assignTests, assigned, assignAlternate, initializedBy, initialize, onDisk, carryOut}
 use Rattle.model.specs.Engine.{viewOf, obey}
-use Rattle.model.proofs.Checked.{opcodeFor, row-of, passed-on, Cleared, cleared, track-in, track-cleared, count-cleared}
+use Rattle.model.proofs.Checked.{opcodeFor, row-of, Cleared, cleared, track-cleared, count-cleared}
+use Rattle.model.proofs.Judged.{passed-on}
+use Rattle.model.proofs.Addresses.{track-in}
 use Rattle.model.proofs.anchors.Untouched.{Past, past-self, past-then, label-past, formatted-past, sound-past}
 use Rattle.model.proofs.anchors.Written.{writes}
+use Rattle.model.proofs.Current.{setting-known}
 
 -- ---- What fills a track is no longer than D
 take-most : (n : ℕ) (l : List ℕ) → length (take n l) ≤ n
@@ -169,27 +170,18 @@ module _ (choices : List ℕ) (b : Block) (given : List ℕ) (area : ℕ) (c : C
   carried-past Seek is = past-self p image
   carried-past AssignAlternate is =
       unless-past p _ b c image _ (λ ok. assigned-past b p w image fits _ _ _ (track-cleared w (clear AssignAlternate is) refl refl)
-      (track-in p (alternateOf given) w (omega (arith, sectors-some p w, second-in p _ _ (alternateOf given) _ _ ok))) (fill-most b p c))
+      (track-in p w (alternateOf given) (omega (arith, sectors-some p w, second-in p _ _ (alternateOf given) _ _ ok))) (fill-most b p c))
   carried-past WriteBuffer is = past-self p image
   carried-past ReadBuffer is = past-self p image
   carried-past Initialize is = same-past _ (initialized-image _ b _ c image)
   carried-past Unknown is = past-self p image
 
 -- ---- The parameters in force, in the record's ten bytes
-known-valid : (known : Bool) (s : Setting) (p : Params) → pick known s Invalid ≡ Valid p → s ≡ Valid p
-unfolding pick
-known-valid true s p e = e
-known-valid false s p e = absurd (let z : _≡_ {A = ℕ} 0 1 = cc in omega arith)
-
-in-force : (entry : Drive) (image : ℕ) (p : Params) → settingIn entry image ≡ Valid p → settingOf (entry .config) image ≡ Valid p
-unfolding settingIn
-in-force entry image p e = known-valid (entry .known) _ p e
-
 pub past-kept : (choices : List ℕ) (b : Block) (given : List ℕ) (area : ℕ) (c : Controller) (image : List ℕ) (p : Params)
     → settingIn (driveAt c (b .drive)) (length image) ≡ Valid p → Past p image (obey choices b given area c image .image)
 unfolding obey
 past-kept choices b given area c image p valid =
-    let is = in-force (driveAt c (b .drive)) (length image) p valid in
+    let is = setting-known (driveAt c (b .drive)) (length image) p valid in
     let fit = setting-within _ _ p is in
     unless-past p _ b c image _ (λ passed.
     rw valid (carried-past choices b given area c image p (fit .0) (fit .1) (setting-ten _ _ p is) valid passed (entryOf (b .opcode) .command) refl))

@@ -1,7 +1,6 @@
 -- Sectors in address order on the plain machine: those held, those given, and what passages of them come to.
 use Prim.Native.Nat.{ℕ, zero, suc, _+_, _-_, _*_, _<_}
 use mathlib.Core.Path.{_≡_, refl, sym, ap, ap₂, _∙_}
-use mathlib.Core.Bool.{true, false, false≢true}
 use mathlib.Core.List.{List, [], _∷_, _++_, append-nil}
 use native.Mathlib.Omega.{arith}
 use native.Mathlib.Nat.{add-zero, zero-mul}
@@ -17,21 +16,11 @@ use Rattle.geometry.specs.Params.{trackOf}
 use Rattle.model.specs.declared.verdict.Verdict.{Verdict}
 use Rattle.model.specs.declared.verdict.Verdict.the-variants.{Faulty, Passed}
 use Rattle.model.specs.Checks.{judged}
-use Rattle.model.specs.Machine.{Kind, stateless, sound, bad, moved, taken, Disk, storing, isBad, isTaken, denied}
+use Rattle.model.specs.Machine.{bad, taken, Disk, storing, isBad, isTaken, denied}
 use Rattle.model.specs.Machine.{Passage, finished, withFirst, passing, readFrom, writeFrom, inARow}
-use Rattle.model.specs.Claim.{isHeld}
 
 abbrev pub lba : ℕ → Lba
 lba a = record { 0 = a }
-
--- ---- What a track's state says: on a sound or moved track Read and Write go on; 19h on a bad one, 1Ch on a taken one
-pub goes-held : (kind : Kind) (a : Lba) → isHeld kind ≡ true → judged (denied kind a) Passed ≡ Passed
-unfolding isHeld judged denied isBad isTaken pick
-goes-held stateless a e = absurd (false≢true e)
-goes-held sound a e = refl
-goes-held bad a e = absurd (false≢true e)
-goes-held (moved u) a e = refl
-goes-held (taken u) a e = absurd (false≢true e)
 
 pub stops-bad : (a : Lba) → judged (denied bad a) Passed ≡ Faulty 0x19 a
 unfolding judged denied isBad isTaken pick

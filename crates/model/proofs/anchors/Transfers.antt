@@ -24,8 +24,9 @@ use Rattle.model.specs.Machine.{Kind, bad, taken, Disk, Machine, changed
 use Rattle.model.specs.Machine.{readFrom, writeFrom, inARow, transferBy, transfer, read, write}
 use Rattle.model.specs.Claim.{isHeld}
 use Rattle.model.proofs.Checked.{count-some}
-use Rattle.model.proofs.anchors.Sectors.{lba, goes-held, stops-bad, stops-taken, says, heldFrom, pieces, storedFrom, pieces-row, pieces-length}
+use Rattle.model.proofs.anchors.Sectors.{lba, stops-bad, stops-taken, says, heldFrom, pieces, storedFrom, pieces-row, pieces-length}
 use Rattle.model.proofs.anchors.Sectors.{held-length, says-kept, stored-apart, held-stored, read-all, write-all, read-stops, write-stops}
+use Rattle.model.proofs.Claimed.{held-passed}
 
 -- a passage that ended well passed its first sector
 went-well : (v : Verdict) (u : Disk) (x : Passage) → passing v u x .end ≡ Passed → (v ≡ Passed) × (x .end ≡ Passed)
@@ -125,20 +126,20 @@ module _ (p : Params) where
   -- ---- Sound and moved tracks alike: what is read and written there does not depend on which of the two a track is
   module _ (n a : ℕ) (u : Disk) (held : (i : ℕ) → i < n → isHeld (u .kind (trackOf p (lba (a + i)))) ≡ true) where
     held-read : readFrom p n a u ≡ record { sectors = heldFrom p n a u; end = Passed; disk = u }
-    held-read = read-all p n a u (λ i h. goes-held _ _ (held i h))
+    held-read = read-all p n a u (λ i h. held-passed _ _ (held i h))
 
     held-written : (given : List ℕ) → writeFrom p n a given u ≡ record { sectors = pieces p n given; end = Passed; disk = storedFrom p n a given u }
-    held-written given = write-all p n a given u (λ i h. goes-held _ _ (held i h))
+    held-written given = write-all p n a given u (λ i h. held-passed _ _ (held i h))
 
   -- ---- The first sector k on a bad or taken track ends it: k sectors are done, and its own address goes with its code
   module _ (k n a : ℕ) (u : Disk) (less : k < n) (held : (i : ℕ) → i < k → isHeld (u .kind (trackOf p (lba (a + i)))) ≡ true)
       (code : ℕ) (here : Denied (u .kind (trackOf p (lba (a + k)))) code) where
     read-ends : readFrom p n a u ≡ record { sectors = heldFrom p k a u; end = Faulty code (lba (a + k)); disk = u }
-    read-ends = read-stops p k n a u less (λ i h. goes-held _ _ (held i h)) code (lba (a + k)) (denied-says here (lba (a + k)))
+    read-ends = read-stops p k n a u less (λ i h. held-passed _ _ (held i h)) code (lba (a + k)) (denied-says here (lba (a + k)))
 
     write-ends : (given : List ℕ)
         → writeFrom p n a given u ≡ record { sectors = pieces p k given; end = Faulty code (lba (a + k)); disk = storedFrom p k a given u }
-    write-ends = write-stops p k n a u less (λ i h. goes-held _ _ (held i h)) code (lba (a + k)) (denied-says here (lba (a + k)))
+    write-ends = write-stops p k n a u less (λ i h. held-passed _ _ (held i h)) code (lba (a + k)) (denied-says here (lba (a + k)))
 
   -- the same in the answers of the two commands, and in the sense that they leave
   module _ (b : Block) (m : Machine) (u : Disk) (k : ℕ) (less : k < countOf b)

@@ -23,7 +23,7 @@ use Rattle.track.proofs.Finds.{where-in}
 use Rattle.track.proofs.Choices.{only-used}
 use Rattle.track.proofs.SameIds.{SameIds, found-same, data-keeps}
 use Rattle.model.specs.Transfer.{Transfer, ended, writeSlot, onward, found, writing}
-use Rattle.model.proofs.Checked.{track-in}
+use Rattle.model.proofs.Addresses.{track-in}
 use Rattle.model.proofs.anchors.Untouched.{Past, past-self, past-then, track-past}
 
 -- ---- A slot that is found is one of the drive
@@ -103,7 +103,7 @@ module _ (p : Params) (w : Within p) where
   unfolding found
   found-again choices a before after h same =
       found-same p after before (omega (arith, w .sectors-some)) same (getD choices 0 0) _ (trackOf p (record { 0 = a }))
-      (track-in p (record { 0 = a }) w h)
+      (track-in p w (record { 0 = a }) h)
 
   module _ (choices : List ℕ) (n a : ℕ) (image : List ℕ) (fits : imageLength p ≤ length image) (inside : a + suc n ≤ trackCount p * p .sectors)
       (u : Track) (j : ℕ) (here : found choices p a image ≡ Slot u j) (hu : u .0 < trackCount p) (hj : j < p .sectors)
@@ -144,7 +144,7 @@ module _ (p : Params) (w : Within p) where
     step rest (Fault code) e = written-none p choices (suc n) a (x .image)
     step rest (Slot u j) e =
         let whole : length (take (p .size) given) ≡ p .size = length-take-le (p .size) given (omega arith) in
-        let at = found-in (getD choices 0 0) p _ _ (x .image) (track-in p (record { 0 = a }) w (omega arith)) u j e in
+        let at = found-in (getD choices 0 0) p _ _ (x .image) (track-in p w (record { 0 = a }) (omega arith)) u j e in
         let kept = stored-past p (x .image) fits u j (at .0) (at .1) (take (p .size) given) whole in
         written-more choices n a (x .image) fits inside u j e (at .0) (at .1) (take (p .size) given) whole _ (rest _ (rw (kept .len) fits))
 

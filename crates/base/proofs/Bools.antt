@@ -1,0 +1,21 @@
+-- Laws of tests.
+use mathlib.Core.Path.{_≡_, refl}
+use mathlib.Core.Bool.{Bool, true, false, not, _||_, true≢false}
+use Prim.Native.Nat.{ℕ, _≤_, _<_}
+use native.Mathlib.Omega.{arith}
+use native.Mathlib.Decide.{decLt}
+use lib.Dec.{ltb, leb}
+use borrow.Author.Tests.{lt-ltb, le-ltb, lt-leb, le-leb}
+
+-- at most is not above
+pub leb-not : (a b : ℕ) → leb a b ≡ not (ltb b a)
+leb-not a b = by (decLt b a)
+  where
+    by : Dec (b < a) → leb a b ≡ not (ltb b a)
+    by (yes h) = rw (lt-ltb b a h, lt-leb a b h)
+    by (no h) = let l : a ≤ b = omega arith in rw (le-ltb b a l, le-leb a b l)
+
+-- where neither holds, each fails
+pub or-off : (a b : Bool) → (a || b) ≡ false → (a ≡ false) × (b ≡ false)
+or-off false b h = (refl, h)
+or-off true b h = absurd (true≢false h)
