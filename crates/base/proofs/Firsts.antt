@@ -36,6 +36,12 @@ module _ (test : ℕ → Bool) (n : ℕ) where
     unfolding firstFrom
     sought-all l = let c : n - k ≡ 0 = omega arith in sym (w .rest) ∙ rw c
 
+-- ---- tests that agree find the same first
+pub first-same : (x y : ℕ → Bool) (k c : ℕ) → ((i : ℕ) → i < k + c → x i ≡ y i) → firstFrom x k c ≡ firstFrom y k c
+unfolding firstFrom
+first-same x y k zero h = refl
+first-same x y k (suc c) h = rw (h k (omega arith), first-same x y (suc k) c (λ i l. h i (omega arith)))
+
 -- ---- what the first is
 step-some : (test : ℕ → Bool) (k c i : ℕ) (b : Bool) → test k ≡ b → pick b (some k) (firstFrom test (suc k) c) ≡ some i
     → (firstFrom test (suc k) c ≡ some i → (suc k ≤ i) × (i < suc k + c) × (test i ≡ true)) → (k ≤ i) × (i < k + suc c) × (test i ≡ true)
@@ -106,10 +112,6 @@ module _ (test : ℕ → Bool) (n : ℕ) where
   none-some e = first-none test n (found-some (firstBelow test n) e)
 
 module _ (test : ℕ → Bool) (n : ℕ) where
-  pub every-miss : (i : ℕ) → firstBelow (λ k. not (test k)) n ≡ some i → everyBelow test n ≡ false
-  unfolding everyBelow
-  every-miss i e = ap not (some-hit (λ k. not (test k)) n i e)
-
   pub every-none : firstBelow (λ k. not (test k)) n ≡ none → everyBelow test n ≡ true
   unfolding everyBelow
   every-none e = ap not (some-none (λ k. not (test k)) n e)

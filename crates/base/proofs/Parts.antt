@@ -128,6 +128,23 @@ other-cell w i j at b size o ys xs ne h₁ h₂ h₃ h₄ fits = by (decLt j i)
     by (yes l) = part-before b size at ys xs (omega (arith, cell-in w j i l)) fits
     by (no l) = part-after b size at ys xs (omega (arith, cell-in w i j (omega arith))) fits
 
+-- parts put one behind the other
+pub splice-on : (hs ys xs : List ℕ) (at : ℕ) → length hs ≡ at → splice at ys (splice 0 hs xs) ≡ splice 0 (hs ++ ys) xs
+unfolding splice
+splice-on hs ys xs at e =
+    let rest = drop (0 + length hs) xs in
+    let front : take at (hs ++ rest) ≡ hs = take-at hs rest at e in
+    let back : drop (at + length ys) (hs ++ rest) ≡ drop (length ys) rest = rw (← e) (drop-append-add hs rest (length ys)) in
+    let long : 0 + length hs + length ys ≡ 0 + length (hs ++ ys) = omega (arith, length-append hs ys) in
+    let tail : drop (length ys) rest ≡ drop (0 + length (hs ++ ys)) xs = drop-drop (length ys) (0 + length hs) xs ∙ ap (λ (i : ℕ). drop i xs) long in
+    rw (front, back, tail) (sym (append-assoc hs ys (drop (0 + length (hs ++ ys)) xs)))
+
+-- an element is the same, whatever stands for those past the end
+pub getD-any : {A : Type 0} (xs : List A) (i : ℕ) (d e : A) → i < length xs → getD xs i d ≡ getD xs i e
+getD-any [] i d e h = absurd (omega arith)
+getD-any (x ∷ xs) zero d e h = refl
+getD-any (x ∷ xs) (suc i) d e h = getD-any xs i d e (le-of-suc-le-suc h)
+
 -- ---- rows of one width
 pub length-rows : (row : ℕ → List ℕ) (w n : ℕ) → ((i : ℕ) → length (row i) ≡ w) → length (rows row n) ≡ n * w
 unfolding rows

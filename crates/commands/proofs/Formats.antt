@@ -3,7 +3,7 @@ use mathlib.Core.Path.{_≡_, sym, ap, _∙_}
 use mathlib.Core.Bool.{Bool, true, false}
 use mathlib.Core.List.{List}
 use Prim.Native.Nat.{ℕ, _-_}
-use lib.ListN.{take}
+use lib.ListN.{take, set}
 use Rattle.base.specs.Pick.{pick}
 use Rattle.base.specs.Part.{part}
 use Rattle.geometry.specs.declared.params.Params.{Params}
@@ -18,17 +18,17 @@ use Rattle.model.specs.declared.record.Outcome.{Outcome}
 use Rattle.model.specs.Block.{fromBuffer}
 use Rattle.model.specs.Record.{driveAt, withDrive, failedOutcome, goodOutcome}
 use Rattle.model.specs.Commands.{isMoved, isTaken, plainFill, fillOf, madeAt, driveFormatted, settled, formatDrive, aloneTests, formatTrack}
-use Rattle.control.specs.Leaves.{silent}
+use Rattle.control.specs.Leaves.{driveIn, recordOf, silent}
 use Rattle.model.proofs.Judged.{judged-hit, judged-on, judged-none}
 use Rattle.commands.proofs.Endings.{ends-faulty, ends-well}
 use Rattle.commands.proofs.Makings.{fill-lent}
 
 -- a drive no longer pending
-pub settled-by : (c other : Controller) (drive : ℕ) (entry : Drive) → entry ≡ driveAt c drive
-    → other ≡ withDrive drive (record { sense = entry .sense; config = entry .config; known = entry .known; pending = false }) c
-    → other ≡ withDrive drive (settled (driveAt c drive)) c
+pub settled-by : (drives other : List Drive) (drive : ℕ) (entry : Drive) → entry ≡ driveIn drives drive
+    → other ≡ set drives drive (record { sense = entry .sense; config = entry .config; known = entry .known; pending = false })
+    → other ≡ set drives drive (settled (driveIn drives drive))
 unfolding settled
-settled-by c other drive entry ee eo = rw (← ee) eo
+settled-by drives other drive entry ee eo = rw (← ee) eo
 
 -- the fill as a call gives it: the first D bytes of 512
 pub fill-is : (b : Block) (p : Params) (c : Controller) (fill : List ℕ)
@@ -46,14 +46,14 @@ module _ (b : Block) (p : Params) (c : Controller) (image : List ℕ) (outcome :
     unfolding formatDrive
     drive-fails h eo = ends-faulty b c image _ outcome _ 0x1D (b .address) (judged-hit _ _ _ _ _ (is-split ∙ h)) eo
 
-    pub drive-well : (other : Controller) (entry : Drive) (fill left : List ℕ) → split ≡ false
-        → part 0 (p .size) fill ≡ pick (fromBuffer b) (part 0 (p .size) (c .buffer)) (plainFill p) → entry ≡ driveAt c (b .drive)
-        → left ≡ driveFormatted b p (entry .config) (take (p .size - 0) fill) image → other ≡ withDrive (b .drive) (settled (driveAt c (b .drive))) c
-        → outcome ≡ goodOutcome (b .drive) 0 0 other → silent outcome left ≡ formatDrive b p c image
-    unfolding formatDrive
-    drive-well other entry fill left h ef ee el ec eo =
+    pub drive-well : (others : List Drive) (entry : Drive) (fill left : List ℕ) → split ≡ false
+        → part 0 (p .size) fill ≡ pick (fromBuffer b) (part 0 (p .size) (c .buffer)) (plainFill p) → entry ≡ driveIn (c .drives) (b .drive)
+        → left ≡ driveFormatted b p (entry .config) (take (p .size - 0) fill) image → others ≡ set (c .drives) (b .drive) (settled (driveIn (c .drives) (b .drive)))
+        → outcome ≡ goodOutcome (b .drive) 0 0 (recordOf (c .buffer) others) → silent outcome left ≡ formatDrive b p c image
+    unfolding formatDrive driveAt withDrive
+    drive-well others entry fill left h ef ee el ec eo =
         ends-well b c image _ outcome _ _ left (judged-on _ _ _ _ _ (is-split ∙ h) ∙ judged-none _)
-        (eo ∙ ap (goodOutcome (b .drive) 0 0) ec) (el ∙ rw (ee, fill-is b p c fill ef))
+        (eo ∙ ap (λ (l : List Drive). goodOutcome (b .drive) 0 0 (recordOf (c .buffer) l)) ec) (el ∙ rw (ee, fill-is b p c fill ef))
 
   -- ---- Format Track and Format Bad Track
   module _ (state : State) (fill : List ℕ) (old : State) (es : old ≡ stateOf p t image) (moved : Bool) (em : moved ≡ isMoved old) where

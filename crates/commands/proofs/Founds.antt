@@ -1,24 +1,21 @@
 -- Where a sector that is found lies, and what codes say that it is not found.
-use mathlib.Core.Path.{_≡_, refl, sym, ap, _∙_}
+use mathlib.Core.Path.{_≡_, refl, sym, ap}
 use mathlib.Core.Bool.{Bool, true, false}
 use mathlib.Core.Option.{Option, none, some}
-use mathlib.Core.List.{List, [], _∷_}
+use mathlib.Core.List.{List}
 use Prim.Native.Nat.{ℕ, _*_, _<_}
 use native.Mathlib.Omega.{arith}
 use native.Mathlib.Nat.{div-lt-iff-lt-mul}
-use lib.ListN.{getD}
 use Rattle.base.specs.Pick.{pick}
 use Rattle.geometry.specs.declared.params.Params.{Params}
 use Rattle.geometry.specs.declared.params.Lba.{Lba}
 use Rattle.geometry.specs.declared.params.Track.{Track}
-use Rattle.geometry.specs.Params.{Within, trackCount, trackOf, sectorOf}
+use Rattle.geometry.specs.Params.{Within, trackCount, trackOf}
 use Rattle.track.specs.declared.id.Id.{Id}
 use Rattle.track.specs.declared.find.Where.{Where}
 use Rattle.track.specs.declared.find.Where.the-variants.{On, Off}
-use Rattle.track.specs.declared.find.Sector.{Sector}
-use Rattle.track.specs.declared.find.Sector.the-variants.{Slot, Fault}
 use Rattle.track.specs.Image.{trackBytes}
-use Rattle.track.specs.Find.{whereBy, whereOf, slotUsed, sectorIn, sectorFrom, sectorFound, MayBeSector}
+use Rattle.track.specs.Find.{Slot, Fault, whereBy, whereOf, slotUsed, sectorIn, sectorFrom, sectorFound}
 use Rattle.track.proofs.Finds.{where-in}
 use Rattle.track.proofs.Choices.{only-used}
 use Rattle.model.specs.Transfer.{found}
@@ -120,14 +117,3 @@ module _ (choices : List ℕ) (p : Params) (a : ℕ) (image : List ℕ) where
   pub found-fault : (c : ℕ) → found choices p a image ≡ Fault c → Code c
   unfolding found
   found-fault c e = fault-in _ p _ _ image c e
-
--- what finding answers is one of the choices
-pub found-by : (p : Params) (a : Lba) (image : List ℕ) (t : Track) (s : ℕ) (r : Sector) → t ≡ trackOf p a → s ≡ sectorOf p a
-    → MayBeSector p t s image r → (choices : List ℕ) × (r ≡ found choices p (a .0) image)
-unfolding found
-found-by p a image t s r et es m = (m .0 ∷ [], m .1 ∙ rw (et, es))
-
--- the first choice is the one that is taken
-pub found-first : (choices rest : List ℕ) (p : Params) (a : ℕ) (image : List ℕ) → found choices p a image ≡ found (getD choices 0 0 ∷ rest) p a image
-unfolding found
-found-first choices rest p a image = refl

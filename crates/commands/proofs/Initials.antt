@@ -3,7 +3,7 @@ use mathlib.Core.Path.{_≡_}
 use mathlib.Core.Bool.{true}
 use mathlib.Core.List.{List}
 use Prim.Native.Nat.{ℕ}
-use lib.ListN.{length}
+use lib.ListN.{length, set}
 use Rattle.base.specs.Part.{part}
 use Rattle.geometry.specs.declared.params.Params.{Params}
 use Rattle.geometry.specs.declared.config.Setting.{Setting}
@@ -15,7 +15,7 @@ use Rattle.model.specs.declared.record.Controller.{Controller}
 use Rattle.model.specs.declared.record.Outcome.{Outcome}
 use Rattle.model.specs.Record.{driveAt, withDrive, failedOutcome, goodOutcome, failed, good}
 use Rattle.model.specs.Commands.{initialized, initializedBy, initialize}
-use Rattle.control.specs.Leaves.{silent}
+use Rattle.control.specs.Leaves.{driveIn, recordOf, silent}
 
 module _ (b : Block) (given : List ℕ) (c : Controller) (image config : List ℕ) (setting : Setting) (outcome : Outcome)
     (ten : config ≡ part 0 10 given) (is : setting ≡ settingOf config (length image)) where
@@ -24,8 +24,8 @@ module _ (b : Block) (given : List ℕ) (c : Controller) (image config : List �
   unfolding initialize initializedBy failed
   initialize-invalid e o = rw (o, ← ten, ← is, e)
 
-  pub initialize-valid : (p : Params) → setting ≡ Valid p → (entry : Drive) → entry ≡ driveAt c (b .drive) → (other : Controller)
-      → other ≡ withDrive (b .drive) (record { sense = entry .sense; config = config; known = true; pending = true }) c
-      → outcome ≡ goodOutcome (b .drive) 0 0 other → silent outcome image ≡ initialize b given c image
-  unfolding initialize initializedBy initialized good
-  initialize-valid p e entry d other w o = rw (o, w, d, ← ten, ← is, e)
+  pub initialize-valid : (p : Params) → setting ≡ Valid p → (entry : Drive) → entry ≡ driveIn (c .drives) (b .drive) → (others : List Drive)
+      → others ≡ set (c .drives) (b .drive) (record { sense = entry .sense; config = config; known = true; pending = true })
+      → outcome ≡ goodOutcome (b .drive) 0 0 (recordOf (c .buffer) others) → silent outcome image ≡ initialize b given c image
+  unfolding initialize initializedBy initialized good driveAt withDrive
+  initialize-valid p e entry d others w o = rw (o, w, d, ← ten, ← is, e)

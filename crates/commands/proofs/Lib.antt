@@ -5,8 +5,13 @@ pub mod Formats
 pub mod Checkings
 pub mod Assigns
 pub mod Founds
-pub mod Ones
+pub mod Runs
 pub mod Lasts
-pub mod Readings
-pub mod Writings
+pub mod Lengths
 pub mod Ends
+pub mod Readings
+pub mod ReadLoops
+pub mod ReadEnds
+pub mod WriteRuns
+pub mod Writings
+pub mod WriteEnds

@@ -1,135 +1,191 @@
--- The loop of Read.
+-- Laws of reading, with the first of slots that hold one sector used throughout.
 use mathlib.Core.Path.{_≡_, refl, sym, ap, _∙_}
-use mathlib.Core.List.{List, [], _∷_, _++_, append-assoc}
-use Prim.Native.Nat.{ℕ, suc, _+_, _-_, _*_, _≤_, _<_}
+use mathlib.Core.Bool.{Bool}
+use mathlib.Core.Option.{Option, none, some}
+use mathlib.Core.List.{List, [], _++_, append-assoc, append-nil}
+use Prim.Native.Nat.{ℕ, zero, suc, _+_, _*_, _≤_, _<_}
 use native.Mathlib.Omega.{arith}
-use native.Mathlib.Nat.{zero-mul, suc-mul, sub-zero, add-zero}
-use native.Mathlib.Numerals.{add-one}
-use lib.ListN.{length, take, drop, getD, length-append}
-use lib.Seq.{take-at, drop-drop, drop-append-add}
-use borrow.Rule.Slice.PartMut.{putMid, put-same}
-use Rattle.base.specs.Part.{splice}
-use Rattle.base.proofs.Parts.{cell-in, splice-lent, length-splice}
+use native.Mathlib.Numerals.{one-add}
+use native.Mathlib.Nat.{zero-mul, suc-mul, zero-add, add-zero}
+use lib.ListN.{length, length-append}
+use lib.Dec.{eqb, ltb, leb·suc-suc}
+use borrow.Author.Tests.{lt-ltb, le-ltb, eq-eqb, ne-eqb}
+use Rattle.base.specs.Pick.{pick}
+use Rattle.base.proofs.Decide.{pick-true, pick-false}
 use Rattle.geometry.specs.declared.params.Params.{Params}
 use Rattle.geometry.specs.declared.params.Track.{Track}
 use Rattle.geometry.specs.Params.{trackCount}
-use Rattle.track.specs.declared.find.Sector.the-variants.{Slot, Fault}
+use Rattle.track.specs.declared.find.Where.the-variants.{On}
 use Rattle.track.specs.Image.{Fits, trackBytes, slotData}
+use Rattle.track.specs.Find.{Sector, Slot, Fault, whereOf, sectorIn}
+use Rattle.track.specs.Run.{firstSlot, onSlot, runDone, runRead}
 use Rattle.model.specs.Transfer.{Transfer, begun, ended, readSlot, onward, found, reading}
-use Rattle.commands.specs.Transfers.{MayRead, HasRead}
-use Rattle.commands.proofs.Founds.{found-slot, found-fault, found-first}
-use Rattle.commands.proofs.Ones.{length-data, read-hit, read-miss}
+use Rattle.commands.specs.Transfers.{lastOf}
+use Rattle.commands.proofs.Founds.{Code, found-slot, found-fault}
+use Rattle.commands.proofs.Lengths.{length-data}
+use Rattle.commands.proofs.Lasts.{last-more}
+use Rattle.commands.proofs.Runs.{onward-has, Along, along-next, along-on}
 
--- ---- one step of the reading
-module _ (choices rest : List ℕ) (p : Params) (m a : ℕ) (x : Transfer) where
-  reading-slot : (u : Track) (k : ℕ) → found choices p a (x .image) ≡ Slot u k
-      → reading (getD choices 0 0 ∷ rest) p (suc m) a x ≡ reading rest p m (suc a) (readSlot p x u k)
-  unfolding reading onward
-  reading-slot u k e = rw (← found-first choices rest p a (x .image), e) refl
+-- ---- from elsewhere: x has d sectors and the bytes h more than y, and is where y is
+pub record Ahead (d : ℕ) (h : List ℕ) (x y : Transfer) : Type 0 where
+  pub done : x .done ≡ d + y .done
+  pub handed : x .handed ≡ h ++ y .handed
+  pub image : x .image ≡ y .image
+  pub code : x .code ≡ y .code
 
-  reading-fault : (code : ℕ) → found choices p a (x .image) ≡ Fault code → reading (getD choices 0 0 ∷ rest) p (suc m) a x ≡ ended code x
-  unfolding reading onward
-  reading-fault code e = rw (← found-first choices rest p a (x .image), e) refl
+module _ (d : ℕ) (h : List ℕ) (p : Params) where
+  module _ (x y : Transfer) (w : Ahead d h x y) where
+    ahead-slot : (u : Track) (k : ℕ) → Ahead d h (readSlot p x u k) (readSlot p y u k)
+    unfolding readSlot
+    ahead-slot u k = record {
+      done = omega (arith, w .done);
+      handed = rw (w .handed, w .image) (append-assoc h (y .handed) (slotData p k (trackBytes p u (y .image))));
+      image = w .image;
+      code = refl;
+    }
 
--- ---- parts put one behind the other
-splice-on : (hs ys xs : List ℕ) (at : ℕ) → length hs ≡ at → splice at ys (splice 0 hs xs) ≡ splice 0 (hs ++ ys) xs
-unfolding splice
-splice-on hs ys xs at e =
-    let rest = drop (0 + length hs) xs in
-    let front : take at (hs ++ rest) ≡ hs = take-at hs rest at e in
-    let back : drop (at + length ys) (hs ++ rest) ≡ drop (length ys) rest = rw (← e) (drop-append-add hs rest (length ys)) in
-    let long : 0 + length hs + length ys ≡ 0 + length (hs ++ ys) = omega (arith, length-append hs ys) in
-    let tail : drop (length ys) rest ≡ drop (0 + length (hs ++ ys)) xs = drop-drop (length ys) (0 + length hs) xs ∙ ap (λ (i : ℕ). drop i xs) long in
-    rw (front, back, tail) (sym (append-assoc hs ys (drop (0 + length (hs ++ ys)) xs)))
+    ahead-onward : (f g : Track → ℕ → Transfer) → ((u : Track) (k : ℕ) → Ahead d h (f u k) (g u k)) → (s : Sector)
+        → Ahead d h (onward x f s) (onward y g s)
+    unfolding onward ended
+    ahead-onward f g next (Fault code) = record { done = w .done; handed = w .handed; image = w .image; code = refl }
+    ahead-onward f g next (Slot u k) = next u k
 
--- ---- the loop: i sectors are done, and what is left, done from here, is the whole, whatever choices are still to come
-pub record Reading (p : Params) (n a : ℕ) (image area₀ area : List ℕ) (i at : ℕ) : Type 0 where
-  pub most : i ≤ n
-  pub place : at ≡ i * p .size
-  pub len : length area ≡ length area₀
-  pub sofar : Transfer
-  pub done : sofar .done ≡ i
-  pub code : sofar .code ≡ 0
-  pub same : sofar .image ≡ image
-  pub long : length (sofar .handed) ≡ at
-  pub is : area ≡ splice 0 (sofar .handed) area₀
-  pub rest : (choices : List ℕ) → (whole : List ℕ) × (reading choices p (n - i) (a + i) sofar ≡ reading whole p n a (begun image))
+  -- it stays so
+  ahead-on : (m a : ℕ) (x y : Transfer) → Ahead d h x y → Ahead d h (reading [] p m a x) (reading [] p m a y)
+  unfolding reading
+  ahead-on zero a x y w = w
+  ahead-on (suc m) a x y w =
+      let same : found [] p a (x .image) ≡ found [] p a (y .image) = ap (found [] p a) (w .image) in
+      rw same
+      (ahead-onward x y w _ _ (λ u k. ahead-on m (suc a) (readSlot p x u k) (readSlot p y u k) (ahead-slot x y w u k)) (found [] p a (y .image)))
 
-module _ (p : Params) (n a : ℕ) (image area₀ : List ℕ) where
-  pub reading-none : Reading p n a image area₀ area₀ 0 0
-  unfolding begun splice
-  reading-none = record {
-    most = omega arith;
-    place = sym (zero-mul (p .size));
-    len = refl;
-    sofar = begun image;
-    done = refl;
-    code = refl;
-    same = refl;
-    long = refl;
-    is = refl;
-    rest = λ choices. (choices, rw (sub-zero, add-zero) refl);
-  }
+-- reading on is reading from the start, added to what is done
+pub reading-ahead : (p : Params) (m a : ℕ) (x : Transfer) (image : List ℕ) → x .code ≡ 0 → x .image ≡ image
+    → Ahead (x .done) (x .handed) (reading [] p m a x) (reading [] p m a (begun image))
+unfolding begun
+reading-ahead p m a x image z e =
+    ahead-on (x .done) (x .handed) p m a x (begun image)
+    (record { done = sym (add-zero (x .done)); handed = sym (append-nil (x .handed)); image = e; code = z })
 
-  module _ (area : List ℕ) (i at : ℕ) (w : Reading p n a image area₀ area i at) where
-    pub reading-room : i < n → n * p .size ≤ length area₀ → at + p .size ≤ length area
-    reading-room l h = omega (arith, w .place, w .len, cell-in (p .size) i n l)
+-- ---- in parts: k more sectors from address a on, unless a code has ended the transfer
+abbrev further : Params → (k a : ℕ) → Transfer → Transfer
+further p k a x = pick (eqb (x .code) 0) (reading [] p k a x) x
 
-    pub reading-all : n ≤ i → HasRead p n a image (record { sectors = i; code = 0 }) area₀ area
-    unfolding reading
-    reading-all l =
-        let r = w .rest [] in
-        let none : n - i ≡ 0 = omega arith in
-        let is : w .sofar ≡ reading (r .0) p n a (begun image) = rw none at (r .1) in
-        (r .0, record { sectors = rw (← is) (sym (w .done)); code = rw (← is) (sym (w .code)); area = rw (← is) (w .is) })
+module _ (p : Params) (k : ℕ) where
+  further-on : (a : ℕ) (x : Transfer) → x .code ≡ 0 → further p k a x ≡ reading [] p k a x
+  further-on a x z = pick-true _ _ _ (eq-eqb (x .code) 0 z)
 
-    module _ (end code : ℕ) (after : List ℕ) (l : i < n) (ee : end ≡ at + p .size)
-        (m : MayRead p (a + i) image code (take (end - at) (drop at area)) after) where
-      here : found (m .0) p (a + i) (w .sofar .image) ≡ found (m .0) p (a + i) image
-      here = ap (found (m .0) p (a + i)) (w .same)
+  further-ended : (a : ℕ) (x : Transfer) → (x .code ≡ 0 → ⊥) → further p k a x ≡ x
+  further-ended a x n = pick-false _ _ _ (ne-eqb (x .code) 0 n)
 
-      left : n - i ≡ suc (n - (i + 1))
-      left = omega arith
+  further-onward : (a : ℕ) (x : Transfer) (f g : Track → ℕ → Transfer) → ((u : Track) (j : ℕ) → f u j ≡ further p k a (g u j)) → (s : Sector)
+      → ((code : ℕ) → s ≡ Fault code → Code code) → onward x f s ≡ further p k a (onward x g s)
+  unfolding onward ended
+  further-onward a x f g next (Fault code) coded =
+      sym (further-ended a (ended code x) (λ z. omega (arith, coded code refl .0)))
+  further-onward a x f g next (Slot u j) coded = next u j
 
-      pub reading-stop : (code ≡ 0 → ⊥) → HasRead p n a image (record { sectors = i; code = code }) area₀ (putMid at (end - at) area after)
-      unfolding ended
-      reading-stop h =
-          let f = read-miss p image _ after code _ h (m .1) in
-          let r = w .rest (getD (m .0) 0 0 ∷ []) in
-          let is : ended code (w .sofar) ≡ reading (r .0) p n a (begun image) =
-          sym (reading-fault (m .0) [] p (n - (i + 1)) (a + i) (w .sofar) code (here ∙ f .0)) ∙ rw left at (r .1) in
-          let kept : putMid at (end - at) area after ≡ area = rw (f .1) (put-same at (end - at) area) in
-          (r .0, record { sectors = rw (← is) (sym (w .done)); code = rw (← is) refl; area = rw (← is) (kept ∙ w .is) })
+  parts : (m a : ℕ) (x : Transfer) → x .code ≡ 0 → reading [] p (m + k) a x ≡ further p k (a + m) (reading [] p m a x)
+  unfolding reading readSlot
+  parts zero a x z = rw (zero-add k, add-zero a) (sym (further-on a x z))
+  parts (suc m) a x z =
+      let e : suc m + k ≡ suc (m + k) = omega arith in
+      let on : a + suc m ≡ suc a + m = omega arith in
+      rw (e, on)
+      (further-onward (suc a + m) x _ _ (λ u j. parts m (suc a) (readSlot p x u j) refl)
+      (found [] p a (x .image)) (found-fault [] p a (x .image)))
 
-      module _ (fits : Fits p image) (h : a + n ≤ trackCount p * p .sectors) (h₀ : n * p .size ≤ length area₀) where
-        reading-on : (u : Track) (k : ℕ) → found (m .0) p (a + i) image ≡ Slot u k → after ≡ slotData p k (trackBytes p u image)
-            → Reading p n a image area₀ (putMid at (end - at) area after) (i + 1) end
-        unfolding readSlot
-        reading-on u k ef ea =
-            let x = w .sofar in
-            let bytes = slotData p k (trackBytes p u (x .image)) in
-            let there = found-slot (m .0) p (a + i) image u k (fits .within) (omega arith) ef in
-            let eb : after ≡ bytes = ea ∙ ap (λ (l : List ℕ). slotData p k (trackBytes p u l)) (sym (w .same)) in
-            let la : length after ≡ p .size = ap length ea ∙ length-data p image fits u k (there .0) (there .1) in
-            let lent : putMid at (end - at) area after ≡ splice at after area = splice-lent at end area after (omega (arith, la)) in
-            record {
-              most = omega arith;
-              place = rw (add-one, suc-mul) (omega (arith, w .place));
-              len = ap length lent ∙ length-splice at after area (omega (arith, la, reading-room l h₀)) ∙ w .len;
-              sofar = readSlot p x u k;
-              done = omega (arith, w .done);
-              code = refl;
-              same = w .same;
-              long = length-append (x .handed) bytes ∙ omega (arith, w .long, la, ap length eb);
-              is = lent ∙ ap (splice at after) (w .is) ∙ splice-on (x .handed) after area₀ at (w .long)
-                  ∙ ap (λ (l : List ℕ). splice 0 (x .handed ++ l) area₀) eb;
-              rest = λ choices.
-                  let r = w .rest (getD (m .0) 0 0 ∷ choices) in
-                  let on : a + (i + 1) ≡ suc (a + i) = omega arith in
-                  (r .0, rw on (sym (reading-slot (m .0) choices p (n - (i + 1)) (a + i) x u k (here ∙ ef)) ∙ rw left at (r .1)));
-            }
+  module _ (m a : ℕ) (x : Transfer) (z : x .code ≡ 0) where
+    -- the first part went well: the second goes on from there
+    pub reading-parts : reading [] p m a x .code ≡ 0 → reading [] p (m + k) a x ≡ reading [] p k (a + m) (reading [] p m a x)
+    reading-parts y = parts m a x z ∙ further-on (a + m) (reading [] p m a x) y
 
-        pub reading-more : code ≡ 0 → Reading p n a image area₀ (putMid at (end - at) area after) (i + 1) end
-        reading-more z =
-            let f = read-hit p image _ after code _ (found-fault (m .0) p (a + i) image) z (m .1) in
-            reading-on (f .0) (f .1) (f .2) (f .3)
+    -- it did not: that is the whole
+    pub reading-ended : (reading [] p m a x .code ≡ 0 → ⊥) → reading [] p (m + k) a x ≡ reading [] p m a x
+    reading-ended n = parts m a x z ∙ further-ended (a + m) (reading [] p m a x) n
+
+-- ---- n sectors asked for: no more are done, and all where no code has ended it; each is D bytes, one behind the other
+pub record Handed (p : Params) (n : ℕ) (image : List ℕ) (x : Transfer) : Type 0 where
+  pub most : x .done ≤ n
+  pub all : x .code ≡ 0 → x .done ≡ n
+  pub code : x .code < 0x80
+  pub same : x .image ≡ image
+  pub long : length (x .handed) ≡ x .done * p .size
+  pub last : x .last ≡ lastOf (x .done) (p .size) (x .handed)
+
+module _ (p : Params) (image : List ℕ) (fits : Fits p image) where
+  handed-none : Handed p 0 image (begun image)
+  unfolding begun lastOf
+  handed-none = record { most = omega arith; all = λ z. refl; code = omega arith; same = refl; long = sym (zero-mul (p .size)); last = refl }
+
+  module _ (n : ℕ) (x : Transfer) (w : Handed p n image x) where
+    handed-ended : (m code : ℕ) → Code code → Handed p (n + m) image (ended code x)
+    unfolding ended
+    handed-ended m code h = record {
+      most = omega (arith, w .most);
+      all = λ z. absurd (omega (arith, h .0));
+      code = h .1;
+      same = w .same;
+      long = w .long;
+      last = w .last;
+    }
+
+    handed-slot : (u : Track) (k : ℕ) → x .code ≡ 0 → u .0 < trackCount p → k < p .sectors → Handed p (suc n) image (readSlot p x u k)
+    unfolding readSlot
+    handed-slot u k z hu hk =
+        let bytes = slotData p k (trackBytes p u (x .image)) in
+        let lb : length bytes ≡ p .size =
+        ap (λ (i : List ℕ). length (slotData p k (trackBytes p u i))) (w .same) ∙ length-data p image fits u k hu hk in
+        record {
+          most = omega (arith, w .most);
+          all = λ z′. ap suc (w .all z);
+          code = omega arith;
+          same = w .same;
+          long = length-append (x .handed) bytes ∙ rw suc-mul (omega (arith, w .long, lb));
+          last = last-more (x .done) (p .size) (x .handed) bytes (w .long) lb;
+        }
+
+  handed-on : (m n a : ℕ) (x : Transfer) → Handed p n image x → x .code ≡ 0 → a + m ≤ trackCount p * p .sectors
+      → Handed p (n + m) image (reading [] p m a x)
+  unfolding reading readSlot
+  handed-on zero n a x w z h = rw add-zero w
+  handed-on (suc m) n a x w z h =
+      onward-has (Handed p (n + suc m) image) x _ (found [] p a (x .image))
+      (λ code e. handed-ended n x w (suc m) code (found-fault [] p a (x .image) code e))
+      (λ u k e.
+      let there = found-slot [] p a (x .image) u k (fits .within) (omega arith) e in
+      let next = handed-slot n x w u k z (there .0) (there .1) in
+      let on : n + suc m ≡ suc n + m = omega arith in
+      rw on (handed-on m (suc n) (suc a) (readSlot p x u k) next refl (omega arith)))
+
+  pub reading-handed : (n a : ℕ) → a + n ≤ trackCount p * p .sectors → Handed p n image (reading [] p n a (begun image))
+  unfolding begun
+  reading-handed n a h = rw zero-add at (handed-on n 0 a (begun image) handed-none refl h)
+
+-- ---- along a track, reading is what a run reads
+abbrev pub Ran : Params → (m s : ℕ) → (bytes : List ℕ) → Transfer → Type 0
+Ran p m s bytes x = (x .done ≡ runDone p m s bytes) × (x .handed ≡ runRead p m s bytes) × (x .code ≡ pick (ltb (runDone p m s bytes) m) 0x14 0)
+
+module _ (p : Params) (image : List ℕ) (u : Track) where
+  -- one more in front
+  ran-more : (m a s : ℕ) (o : Option ℕ) → firstSlot p s (trackBytes p u image) ≡ o → found [] p a image ≡ sectorIn u o
+      → Ran p m (suc s) (trackBytes p u image) (reading [] p m (suc a) (begun image))
+      → Ran p (suc m) s (trackBytes p u image) (reading [] p (suc m) a (begun image))
+  unfolding runDone runRead onSlot sectorIn reading onward begun ended readSlot
+  ran-more m a s none e f r = rw (e, f) (refl, refl, sym (pick-true _ _ _ (lt-ltb 0 (suc m) (omega arith))))
+  ran-more m a s (some k) e f r =
+      let w = reading-ahead p m (suc a) (readSlot p (begun image) u k) image refl refl in
+      let d = runDone p m (suc s) (trackBytes p u image) in
+      rw (e, f) (
+        w .done ∙ ap (λ (i : ℕ). 1 + i) (r .0) ∙ one-add d,
+        w .handed ∙ ap (λ (l : List ℕ). slotData p k (trackBytes p u image) ++ l) (r .1),
+        w .code ∙ r .2 ∙ ap (λ (b : Bool). pick b 0x14 0) (sym (leb·suc-suc (suc d) m)),
+      )
+
+  pub reading-ran : (t : Track) → 0 < p .sectors → whereOf p t image ≡ On u → (m a s : ℕ) → Along p m a t s
+      → Ran p m s (trackBytes p u image) (reading [] p m a (begun image))
+  unfolding runDone runRead reading begun
+  reading-ran t h on zero a s along = (refl, refl, sym (pick-false _ _ _ (le-ltb 0 0 (omega arith))))
+  reading-ran t h on (suc m) a s along =
+      ran-more m a s (firstSlot p s (trackBytes p u image)) refl (along-on p image m a t s along u on)
+      (reading-ran t h on m (suc a) (suc s) (along-next p m a t s along))

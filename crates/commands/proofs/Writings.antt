@@ -1,122 +1,189 @@
--- The loop of Write.
+-- Writing in parts, and the loop of Write.
 use mathlib.Core.Path.{_≡_, refl, sym, ap, _∙_}
 use mathlib.Core.List.{List, [], _∷_}
-use Prim.Native.Nat.{ℕ, suc, _+_, _-_, _*_, _≤_, _<_}
+use Prim.Native.Nat.{ℕ, zero, suc, _+_, _-_, _*_, _≤_}
 use native.Mathlib.Omega.{arith}
-use native.Mathlib.Nat.{zero-mul, suc-mul, sub-zero, add-zero}
-use native.Mathlib.Numerals.{add-one}
-use lib.ListN.{length, take, drop, getD, length-take, length-drop}
-use lib.Seq.{drop-drop}
-use Rattle.base.proofs.Parts.{cell-in}
+use native.Mathlib.Nat.{zero-mul, suc-mul, add-mul, mul-le-mul-right, add-zero, zero-add, suc-add}
+use lib.ListN.{length, take, drop}
+use lib.Seq.{take-nil, take-take, drop-drop}
 use Rattle.geometry.specs.declared.params.Params.{Params}
 use Rattle.geometry.specs.declared.params.Track.{Track}
-use Rattle.geometry.specs.Params.{trackCount}
-use Rattle.track.specs.declared.find.Sector.the-variants.{Slot, Fault}
-use Rattle.track.specs.Image.{Fits, trackBytes, withTrack, withData}
+use Rattle.track.specs.Find.{Sector, Slot, Fault}
+use Rattle.track.specs.Image.{Fits}
 use Rattle.model.specs.Transfer.{Transfer, begun, ended, writeSlot, onward, found, writing}
-use Rattle.commands.specs.Transfers.{MayWrite, HasWritten}
-use Rattle.commands.proofs.Founds.{found-slot, found-fault, found-first}
-use Rattle.commands.proofs.Ones.{length-written, write-hit, write-miss}
+use Rattle.commands.specs.declared.transfer.Done.{Done}
+use Rattle.commands.specs.Transfers.{HasWritten}
+use Rattle.commands.proofs.Founds.{found-fault}
+use Rattle.commands.proofs.Runs.{onward-has}
 
--- ---- one step of the writing
-module _ (choices rest : List ℕ) (p : Params) (m a : ℕ) (given : List ℕ) (x : Transfer) where
-  writing-slot : (u : Track) (k : ℕ) → found choices p a (x .image) ≡ Slot u k
-      → writing (getD choices 0 0 ∷ rest) p (suc m) a given x
-      ≡ writing rest p m (suc a) (drop (p .size) given) (writeSlot p (take (p .size) given) x u k)
-  unfolding writing onward
-  writing-slot u k e = rw (← found-first choices rest p a (x .image), e) refl
+-- two transfers that find the same sector
+onward-both : (R : Transfer → Transfer → Type 0) (x y : Transfer) (f g : Track → ℕ → Transfer) (s r : Sector) → s ≡ r
+    → ((code : ℕ) → s ≡ Fault code → R (ended code x) (ended code y)) → ((u : Track) (k : ℕ) → R (f u k) (g u k))
+    → R (onward x f s) (onward y g r)
+unfolding onward
+onward-both R x y f g (Fault code) r e hf hs = rw (← e) (hf code refl)
+onward-both R x y f g (Slot u k) r e hf hs = rw (← e) (hs u k)
 
-  writing-fault : (code : ℕ) → found choices p a (x .image) ≡ Fault code → writing (getD choices 0 0 ∷ rest) p (suc m) a given x ≡ ended code x
-  unfolding writing onward
-  writing-fault code e = rw (← found-first choices rest p a (x .image), e) refl
+-- ---- the next sector of what is given for some, and the rest
+drop-take : (n m : ℕ) (xs : List ℕ) → drop n (take (n + m) xs) ≡ take m (drop n xs)
+drop-take zero m xs = ap (λ (k : ℕ). take k xs) (zero-add m)
+drop-take (suc n) m [] = ap (drop (suc n)) (take-nil (suc n + m)) ∙ sym (take-nil m)
+drop-take (suc n) m (x ∷ xs) = rw (suc-add n m) (drop-take n m xs)
 
--- ---- the loop: i sectors are done, and what is left, done from here, is the whole, whatever choices are still to come
+module _ (m size : ℕ) (given : List ℕ) where
+  next-same : take size given ≡ take size (take (suc m * size) given)
+  next-same = sym (take-take size (suc m * size) given (omega (arith, suc-mul m size)))
+
+  rest-same : take (m * size) (drop size given) ≡ drop size (take (suc m * size) given)
+  rest-same = let e : suc m * size ≡ size + m * size = omega (arith, suc-mul m size) in rw e (sym (drop-take size (m * size) given))
+
+-- ---- writing that starts elsewhere, with no more data than it needs: d sectors were done before, and all else is the same
+record Beside (d : ℕ) (x y : Transfer) : Type 0 where
+  pub done : x .done ≡ d + y .done
+  pub code : x .code ≡ y .code
+  pub image : x .image ≡ y .image
+
+beside-ended : (d code : ℕ) (x y : Transfer) → Beside d x y → Beside d (ended code x) (ended code y)
+unfolding ended
+beside-ended d code x y b = record { done = b .done; code = refl; image = b .image }
+
+beside-slot : (p : Params) (d : ℕ) (sector : List ℕ) (x y : Transfer) (u : Track) (k : ℕ) → Beside d x y
+    → Beside d (writeSlot p sector x u k) (writeSlot p sector y u k)
+unfolding writeSlot
+beside-slot p d sector x y u k b = record { done = omega (arith, b .done); code = refl; image = rw (b .image) refl }
+
+beside : (p : Params) (d m a : ℕ) (given : List ℕ) (x y : Transfer) → Beside d x y
+    → Beside d (writing [] p m a given x) (writing [] p m a (take (m * p .size) given) y)
+unfolding writing
+beside p d zero a given x y b = b
+beside p d (suc m) a given x y b =
+    onward-both (Beside d) x y _ _ _ _ (ap (found [] p a) (b .image)) (λ code e. beside-ended d code x y b)
+    (λ u k. rw (← next-same m (p .size) given, ← rest-same m (p .size) given)
+    (beside p d m (suc a) (drop (p .size) given) _ _ (beside-slot p d (take (p .size) given) x y u k b)))
+
+-- ---- parts put together
+module _ (p : Params) (k : ℕ) where
+  -- all of a part was written: what comes behind it goes on from there
+  joined : (m a : ℕ) (given : List ℕ) (x : Transfer) → writing [] p m a given x .code ≡ 0
+      → writing [] p (m + k) a given x ≡ writing [] p k (a + m) (drop (m * p .size) given) (writing [] p m a given x)
+  unfolding writing ended
+  joined zero a given x z = rw (zero-add, zero-mul, add-zero) refl
+  joined (suc m) a given x z =
+      let on : suc a + m ≡ a + suc m = omega arith in
+      let far : p .size + m * p .size ≡ suc m * p .size = omega (arith, suc-mul m (p .size)) in
+      let past : drop (m * p .size) (drop (p .size) given) ≡ drop (suc m * p .size) given =
+      drop-drop (m * p .size) (p .size) given ∙ ap (λ (i : ℕ). drop i given) far in
+      rw suc-add
+      (onward-both (λ l r. r .code ≡ 0 → l ≡ writing [] p k (a + suc m) (drop (suc m * p .size) given) r) x x _ _ _ _ refl
+      (λ code e zc. absurd (omega (arith, found-fault [] p a (x .image) code e .0)))
+      (λ u j zc. rw (← on, ← past) (joined m (suc a) (drop (p .size) given) _ zc)) z)
+
+  -- a part ended before: nothing comes behind it
+  stopped : (m a : ℕ) (given : List ℕ) (x : Transfer) → x .code ≡ 0 → (writing [] p m a given x .code ≡ 0 → ⊥)
+      → writing [] p (m + k) a given x ≡ writing [] p m a given x
+  unfolding writing writeSlot
+  stopped zero a given x z n = absurd (n z)
+  stopped (suc m) a given x z n =
+      rw suc-add
+      (onward-both (λ l r. (r .code ≡ 0 → ⊥) → l ≡ r) x x _ _ _ _ refl (λ code e nc. refl)
+      (λ u j nc. stopped m (suc a) (drop (p .size) given) _ refl nc) n)
+
+-- ---- how many sectors
+record Counted (n : ℕ) (x : Transfer) : Type 0 where
+  pub most : x .done ≤ n
+  pub all : x .code ≡ 0 → x .done ≡ n
+
+counted : (p : Params) (n m a : ℕ) (given : List ℕ) (x : Transfer) → x .done + m ≡ n → Counted n (writing [] p m a given x)
+unfolding writing writeSlot ended
+counted p n zero a given x e = record { most = omega arith; all = λ z. omega arith }
+counted p n (suc m) a given x e =
+    onward-has (Counted n) x _ (found [] p a (x .image))
+    (λ code ef. record { most = omega arith; all = λ z. absurd (omega (arith, found-fault [] p a (x .image) code ef .0)) })
+    (λ u k ef. counted p n m (suc a) (drop (p .size) given) _ (omega arith))
+
+module _ (p : Params) (n a : ℕ) (given image after : List ℕ) (r : Done) (w : HasWritten p n a given r image after) where
+  has-counted : Counted n (writing [] p n a given (begun image))
+  unfolding begun
+  has-counted = counted p n n a given (begun image) (omega arith)
+
+  -- no more than were asked for, and as many if none failed
+  pub written-most : r .sectors ≤ n
+  written-most = rw (w .sectors) (has-counted .most)
+
+  pub written-all : r .code ≡ 0 → r .sectors ≡ n
+  written-all z = w .sectors ∙ has-counted .all (sym (w .code) ∙ z)
+
+-- ---- what parts have written, put together
+begun-beside : (i : ℕ) (image : List ℕ) (x : Transfer) → i ≡ x .done → 0 ≡ x .code → image ≡ x .image → Beside i x (begun image)
+unfolding begun
+begun-beside i image x ed ec ei = record { done = omega arith; code = sym ec; image = sym ei }
+
+module _ (p : Params) (a : ℕ) (given image₀ : List ℕ) where
+  -- i sectors, and then m more
+  has-joined : (i m : ℕ) (image after : List ℕ) (r : Done) → HasWritten p i a given (record { sectors = i; code = 0 }) image₀ image
+      → HasWritten p m (a + i) (take (m * p .size) (drop (i * p .size) given)) r image after
+      → HasWritten p (i + m) a given (record { sectors = i + r .sectors; code = r .code }) image₀ after
+  has-joined i m image after r w h =
+      let x = writing [] p i a given (begun image₀) in
+      let b = beside p i m (a + i) (drop (i * p .size) given) x (begun image) (begun-beside i image x (w .sectors) (w .code) (w .image)) in
+      rw (joined p m i a given (begun image₀) (sym (w .code)))
+      (record { sectors = omega (arith, h .sectors, b .done); code = h .code ∙ sym (b .code); image = h .image ∙ sym (b .image) })
+
+  -- one failed, and so no more follow
+  has-stopped : (m k : ℕ) (after : List ℕ) (r : Done) → HasWritten p m a given r image₀ after → (r .code ≡ 0 → ⊥)
+      → HasWritten p (m + k) a given r image₀ after
+  unfolding begun
+  has-stopped m k after r w n = rw (stopped p k m a given (begun image₀) refl (λ z. n (w .code ∙ z))) w
+
+-- ---- the loop: i sectors are written, one part behind the other
 pub record Writing (p : Params) (n a : ℕ) (given image₀ image : List ℕ) (i at : ℕ) : Type 0 where
   pub most : i ≤ n
   pub place : at ≡ i * p .size
   pub len : length image ≡ length image₀
-  pub sofar : Transfer
-  pub done : sofar .done ≡ i
-  pub code : sofar .code ≡ 0
-  pub is : sofar .image ≡ image
-  pub rest : (choices : List ℕ)
-      → (whole : List ℕ) × (writing choices p (n - i) (a + i) (drop at given) sofar ≡ writing whole p n a given (begun image₀))
+  pub is : HasWritten p i a given (record { sectors = i; code = 0 }) image₀ image
 
 module _ (p : Params) (n a : ℕ) (given image₀ : List ℕ) where
   pub writing-none : Writing p n a given image₀ image₀ 0 0
-  unfolding begun
+  unfolding writing begun
   writing-none = record {
     most = omega arith;
     place = sym (zero-mul (p .size));
     len = refl;
-    sofar = begun image₀;
-    done = refl;
-    code = refl;
-    is = refl;
-    rest = λ choices. (choices, rw (sub-zero, add-zero) refl);
+    is = record { sectors = refl; code = refl; image = refl };
   }
 
   module _ (image : List ℕ) (i at : ℕ) (w : Writing p n a given image₀ image i at) where
-    pub writing-room : i < n → n * p .size ≤ length given → at + p .size ≤ length given
-    writing-room l h = omega (arith, w .place, cell-in (p .size) i n l)
-
     pub writing-fits : Fits p image₀ → Fits p image
     writing-fits f = record { within = f .within; long = rw (w .len) (f .long) }
 
     pub writing-all : n ≤ i → HasWritten p n a given (record { sectors = i; code = 0 }) image₀ image
-    unfolding writing
-    writing-all l =
-        let r = w .rest [] in
-        let none : n - i ≡ 0 = omega arith in
-        let is : w .sofar ≡ writing (r .0) p n a given (begun image₀) = rw none at (r .1) in
-        (r .0, record { sectors = rw (← is) (sym (w .done)); code = rw (← is) (sym (w .code)); image = rw (← is) (sym (w .is)) })
+    writing-all l = let e : i ≡ n = omega (arith, w .most) in rw (← e) (w .is)
 
-    module _ (end code : ℕ) (after : List ℕ) (l : i < n) (ee : end ≡ at + p .size)
-        (m : MayWrite p (a + i) (take (end - at) (drop at given)) code image after) where
-      here : found (m .0) p (a + i) (w .sofar .image) ≡ found (m .0) p (a + i) image
-      here = ap (found (m .0) p (a + i)) (w .is)
+    -- m more sectors have their data
+    pub writing-room : (m : ℕ) → m ≤ n - i → n * p .size ≤ length given → at + m * p .size ≤ length given
+    writing-room m l h =
+        let k : i + m ≤ n = omega (arith, w .most) in
+        omega (arith, w .place, add-mul i m (p .size), mul-le-mul-right (p .size) k)
 
-      left : n - i ≡ suc (n - (i + 1))
-      left = omega arith
+    -- a part of m sectors is written
+    module _ (m : ℕ) (l : m ≤ n - i) (part : Done) (after : List ℕ)
+        (h : HasWritten p m (a + i) (take (at + m * p .size - at) (drop at given)) part image after) where
+      together : HasWritten p (i + m) a given (record { sectors = i + part .sectors; code = part .code }) image₀ after
+      together =
+          let wide : at + m * p .size - at ≡ m * p .size = omega arith in
+          has-joined p a given image₀ i m image after part (w .is) (rw (← w .place) (rw wide at h))
 
-      pub writing-stop : (code ≡ 0 → ⊥) → HasWritten p n a given (record { sectors = i; code = code }) image₀ after
-      unfolding ended
-      writing-stop h =
-          let f = write-miss p _ image after code _ h (m .1) in
-          let r = w .rest (getD (m .0) 0 0 ∷ []) in
-          let is : ended code (w .sofar) ≡ writing (r .0) p n a given (begun image₀) =
-          sym (writing-fault (m .0) [] p (n - (i + 1)) (a + i) (drop at given) (w .sofar) code (here ∙ f .0)) ∙ rw left at (r .1) in
-          (r .0, record { sectors = rw (← is) (sym (w .done)); code = rw (← is) refl; image = rw (← is) (f .1 ∙ sym (w .is)) })
+      pub writing-stop : (part .code ≡ 0 → ⊥) → HasWritten p n a given (record { sectors = i + part .sectors; code = part .code }) image₀ after
+      writing-stop failed =
+          let e : i + m + (n - (i + m)) ≡ n = omega (arith, w .most) in
+          rw e at (has-stopped p a given image₀ (i + m) (n - (i + m)) after _ together failed)
 
-      module _ (fits : Fits p image₀) (h : a + n ≤ trackCount p * p .sectors) (h₀ : n * p .size ≤ length given) where
-        writing-on : (u : Track) (k : ℕ) → found (m .0) p (a + i) image ≡ Slot u k
-            → after ≡ withTrack p u (withData p k (take (end - at) (drop at given)) (trackBytes p u image)) image
-            → Writing p n a given image₀ after (i + 1) end
-        unfolding writeSlot
-        writing-on u k ef ea =
-            let x = w .sofar in
-            let wide : end - at ≡ p .size = omega arith in
-            let bytes = take (p .size) (drop at given) in
-            let there = found-slot (m .0) p (a + i) image u k (fits .within) (omega arith) ef in
-            let eb : after ≡ withTrack p u (withData p k bytes (trackBytes p u image)) image = rw wide at ea in
-            let lb : length bytes ≡ p .size = simp (length-take, length-drop) (omega (arith, writing-room l h₀)) in
-            record {
-              most = omega arith;
-              place = rw (add-one, suc-mul) (omega (arith, w .place));
-              len = ap length eb ∙ length-written p image (writing-fits fits) u k (there .0) (there .1) bytes lb ∙ w .len;
-              sofar = writeSlot p bytes x u k;
-              done = omega (arith, w .done);
-              code = refl;
-              is = ap (λ (l : List ℕ). withTrack p u (withData p k bytes (trackBytes p u l)) l) (w .is) ∙ sym eb;
-              rest = λ choices.
-                  let r = w .rest (getD (m .0) 0 0 ∷ choices) in
-                  let on : a + (i + 1) ≡ suc (a + i) = omega arith in
-                  let past : drop end given ≡ drop (p .size) (drop at given) = ap (λ (j : ℕ). drop j given) ee ∙ sym (drop-drop (p .size) at given) in
-                  let step = writing-slot (m .0) choices p (n - (i + 1)) (a + i) (drop at given) x u k (here ∙ ef) in
-                  (r .0, rw (on, past) (sym step ∙ rw left at (r .1)));
-            }
-
-        pub writing-more : code ≡ 0 → Writing p n a given image₀ after (i + 1) end
-        writing-more z =
-            let f = write-hit p _ image after code _ (found-fault (m .0) p (a + i) image) z (m .1) in
-            writing-on (f .0) (f .1) (f .2) (f .3)
+      pub writing-more : part .code ≡ 0 → length after ≡ length image → Writing p n a given image₀ after (i + part .sectors) (at + m * p .size)
+      writing-more z la =
+          let e : part .sectors ≡ m = written-all p m (a + i) _ image after part h z in
+          record {
+            most = omega (arith, w .most);
+            place = rw (e, add-mul) (omega (arith, w .place));
+            len = la ∙ w .len;
+            is = rw e (rw (e, z) at together);
+          }

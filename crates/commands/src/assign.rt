@@ -7,6 +7,7 @@ use crate::state::is_moved;
 use crate::state::is_taken;
 use control::block::alternate_of;
 use control::logic::either;
+use control::record::Ending;
 use control::record::failed;
 use control::record::good;
 use control::record::refused;
@@ -14,24 +15,21 @@ use geometry::params::Lba;
 use geometry::params::Params;
 use geometry::params::Track;
 use model::block::Block;
-use model::record::Controller;
-use model::record::Outcome;
+use model::record::Drive;
 use model::verdict::Verdict;
 use track::id::State;
 use track::pair::state_of;
 ghost use mathlib.Core.Path.{_≡_};
-ghost use mathlib.Core.Bool.{_||_};
 ghost use mathlib.Core.List.{[], _∷_};
 ghost use Prim.Native.Nat.{_≤_, _<_};
 ghost use lib.ListN.{length};
-ghost use Rattle.base.specs.Part.{part};
 ghost use Rattle.geometry.specs.Params.{trackCount, trackOf};
 ghost use Rattle.track.specs.Image.{Fits};
 ghost use Rattle.track.specs.Pair.{stateOf};
 ghost use Rattle.model.specs.declared.verdict.Verdict.the-variants.{Passed};
 ghost use Rattle.model.specs.Checks.{on, judged};
 ghost use Rattle.model.specs.Commands.{assignTests, assigned, assignAlternate};
-ghost use Rattle.control.specs.Leaves.{silent};
+ghost use Rattle.control.specs.Leaves.{recordOf, leftWith, silent};
 
 // The faults of a pair of tracks, in document 01's order.
 fn pair_faults(
@@ -102,25 +100,25 @@ fn make_pair(image: &mut [u8], b: Block, p: Params, from: Track, to: Track, fill
 }
 
 pub fn assign_alternate(
-    c: Controller,
+    drives: [Drive; 4],
     b: Block,
     p: Params,
+    buffer: &[u8],
     given: &[u8],
     image: &mut [u8],
-) -> Outcome
-    requires { ⌜ Fits p (now image) × (b .drive < 4) × (b .address .0 < 2097152) × (trackOf p (b .address) .0 < trackCount p) × (b .extra < p .sectors) × (3 ≤ length (now given)) ⌝ }
-    ensures { λ r. ⌜ silent r (now (image .exit)) ≡ assignAlternate b p (now (given .entry)) c (now (image .entry)) ⌝ }
+) -> Ending
+    requires { ⌜ Fits p (now image) × (b .drive < 4) × (b .address .0 < 2097152) × (trackOf p (b .address) .0 < trackCount p) × (b .extra < p .sectors) × (3 ≤ length (now given)) × (length (now buffer) ≡ 512) ⌝ }
+    ensures { λ r. ⌜ silent (leftWith (now (buffer .entry)) r) (now (image .exit)) ≡ assignAlternate b p (now (given .entry)) (recordOf (now (buffer .entry)) drives) (now (image .entry)) ⌝ }
 {
     let drive = b.drive;
     let at = b.address;
     let alternate = alternate_of(given);
     let verdict = assign_faults(image, p, given[0], at, alternate);
     match verdict {
-        Verdict::Refused(number) => refused(c, number),
-        Verdict::Faulty(code, place) => failed(c, drive, code, place, 0, 0),
+        Verdict::Refused(number) => refused(drives, number),
+        Verdict::Faulty(code, place) => failed(drives, drive, code, place, 0, 0),
         Verdict::Passed => {
             let size = p.size;
-            let buffer = c.buffer;
             let fill = fill_of(b, p, buffer);
             make_pair(
                 image,
@@ -130,7 +128,7 @@ pub fn assign_alternate(
                 p.track_of(alternate),
                 &fill[0..size],
             );
-            good(c, drive, 0, 0)
+            good(drives, drive, 0, 0)
         }
     }
 }

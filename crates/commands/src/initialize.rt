@@ -1,5 +1,6 @@
 // Initialize.
 use base::copy_bytes;
+use control::record::Ending;
 use control::record::drive_at;
 use control::record::failed;
 use control::record::good;
@@ -7,15 +8,13 @@ use control::record::with_drive;
 use geometry::config::Setting;
 use geometry::config::setting_of;
 use model::block::Block;
-use model::record::Controller;
 use model::record::Drive;
-use model::record::Outcome;
 ghost use mathlib.Core.Path.{_≡_};
 ghost use Prim.Native.Nat.{_≤_, _<_};
 ghost use lib.ListN.{length};
 ghost use Rattle.base.specs.Part.{part};
 ghost use Rattle.model.specs.Commands.{initialize};
-ghost use Rattle.control.specs.Leaves.{silent};
+ghost use Rattle.control.specs.Leaves.{Ends};
 
 // The ten configuration bytes given.
 fn config_of(given: &[u8]) -> [u8; 10]
@@ -28,17 +27,17 @@ fn config_of(given: &[u8]) -> [u8; 10]
 }
 
 // The configuration comes into force, pending, if it is valid with the image; else 22h.
-pub fn initialize(c: Controller, b: Block, given: &[u8], image: &[u8]) -> Outcome
+pub fn initialize(drives: [Drive; 4], b: Block, given: &[u8], image: &[u8]) -> Ending
     requires { ⌜ (b .drive < 4) × (b .address .0 < 2097152) × (10 ≤ length (now given)) ⌝ }
-    ensures { λ r. ⌜ silent r (now (image .entry)) ≡ initialize b (now (given .entry)) c (now (image .entry)) ⌝ }
+    ensures { λ r. ⌜ Ends r drives (now (image .entry)) (λ c. initialize b (now (given .entry)) c (now (image .entry))) ⌝ }
 {
     let config = config_of(given);
     let drive = b.drive;
     let setting = setting_of(config, image.len());
     match setting {
-        Setting::Invalid => failed(c, drive, 0x22, b.address, 0, 0),
+        Setting::Invalid => failed(drives, drive, 0x22, b.address, 0, 0),
         Setting::Valid(_) => {
-            let entry = drive_at(c, drive);
+            let entry = drive_at(drives, drive);
             let sense = entry.sense;
             let next = Drive {
                 sense: sense,
@@ -46,7 +45,7 @@ pub fn initialize(c: Controller, b: Block, given: &[u8], image: &[u8]) -> Outcom
                 known: true,
                 pending: true,
             };
-            good(with_drive(c, drive, next), drive, 0, 0)
+            good(with_drive(drives, drive, next), drive, 0, 0)
         }
     }
 }

@@ -31,12 +31,14 @@ pub fn plain_fill(p: Params) -> [u8; 512]
 }
 
 // The first D bytes are what a format with this block fills sectors with.
-pub fn fill_of(b: Block, p: Params, buffer: [u8; 512]) -> [u8; 512]
-    requires { ⌜ p .size ≤ 512 ⌝ }
-    ensures { λ r. ⌜ (part 0 (p .size) r ≡ pick (fromBuffer b) (part 0 (p .size) buffer) (plainFill p)) × (length r ≡ 512) ⌝ }
+pub fn fill_of(b: Block, p: Params, buffer: &[u8]) -> [u8; 512]
+    requires { ⌜ (p .size ≤ 512) × (length (now buffer) ≡ 512) ⌝ }
+    ensures { λ r. ⌜ (part 0 (p .size) r ≡ pick (fromBuffer b) (part 0 (p .size) (now (buffer .entry))) (plainFill p)) × (length r ≡ 512) ⌝ }
 {
     if from_buffer(b) {
-        return buffer;
+        let mut fill = [0u8; 512];
+        copy_bytes(&mut fill, buffer);
+        return fill;
     }
     plain_fill(p)
 }

@@ -1,16 +1,21 @@
 // What Read and Write share: the last sector to the buffer, and how a transfer ends.
-use control::buffer::with_front;
+use control::buffer::put_front;
+use control::record::Ending;
 use control::record::failed;
 use control::record::good;
 use geometry::params::Lba;
+use geometry::params::Params;
 use model::block::Block;
-use model::record::Controller;
-use model::record::Outcome;
+use model::record::Drive;
 ghost use mathlib.Core.Path.{_≡_};
 ghost use Prim.Native.Nat.{_+_, _*_, _≤_, _<_};
 ghost use lib.ListN.{length};
+ghost use lib.Dec.{ltb};
+ghost use Rattle.base.specs.Pick.{pick};
 ghost use Rattle.base.specs.Part.{splice};
+ghost use Rattle.geometry.specs.Params.{Within, sectorOf};
 ghost use Rattle.commands.specs.Transfers.{lastOf, finishOf};
+ghost use Rattle.control.specs.Leaves.{Leaves};
 
 // Sectors done, and the code of the one that failed or 0.
 pub struct Done {
@@ -18,32 +23,60 @@ pub struct Done {
     pub code: u8,
 }
 
-// The buffer after a transfer: the last sector done at its front.
-pub fn last_in(buffer: [u8; 512], sectors: usize, size: usize, moved: &[u8]) -> [u8; 512]
-    requires { ⌜ (size ≤ 512) × (sectors * size ≤ length (now moved)) × (sectors ≤ 256) ⌝ }
-    ensures { λ r. ⌜ r ≡ splice 0 (lastOf sectors size (now (moved .entry))) buffer ⌝ }
+// What a run of n sectors of a track comes to: 14h where it ended before the last.
+pub fn done_of(sectors: usize, n: usize) -> Done
+    ensures { λ r. ⌜ (r .sectors ≡ sectors) × (r .code ≡ pick (ltb sectors n) 0x14 0) ⌝ }
+{
+    if sectors < n {
+        return Done {
+            sectors: sectors,
+            code: 0x14,
+        };
+    }
+    Done {
+        sectors: sectors,
+        code: 0,
+    }
+}
+
+// How many of the sectors left are on the track of an address.
+pub fn sectors_here(p: Params, a: Lba, left: usize) -> usize
+    requires { ⌜ Within p × (1 ≤ left) ⌝ }
+    ensures { λ r. ⌜ (1 ≤ r) × (r ≤ left) × (sectorOf p a + r ≤ p .sectors) ⌝ }
+{
+    let room = p.sectors - p.sector_of(a) as usize;
+    if left < room {
+        return left;
+    }
+    room
+}
+
+// After a transfer the last sector done is at the buffer's front.
+pub fn keep_last(buffer: &mut [u8], sectors: usize, size: usize, moved: &[u8])
+    requires { ⌜ (size ≤ length (now buffer)) × (sectors * size ≤ length (now moved)) × (sectors ≤ 256) ⌝ }
+    ensures { λ _. ⌜ now (buffer .exit) ≡ splice 0 (lastOf sectors size (now (moved .entry))) (now (buffer .entry)) ⌝ }
 {
     if sectors == 0 {
-        return buffer;
+        return;
     }
     let start = (sectors - 1) * size;
     let end = start + size;
-    with_front(buffer, &moved[start..end])
+    put_front(buffer, &moved[start..end]);
 }
 
 // A transfer's end: good, or the failing sector's code and address.
-pub fn finish(c: Controller, b: Block, done: Done, bytes: u32) -> Outcome
+pub fn finish(drives: [Drive; 4], b: Block, done: Done, bytes: u32) -> Ending
     requires { ⌜ (b .drive < 4) × (done .sectors ≤ 256) × (done .code < 0x80) × (b .address .0 + 256 < 2097152) ⌝ }
-    ensures { λ r. ⌜ r ≡ finishOf b (done .sectors) (done .code) bytes c ⌝ }
+    ensures { λ r. ⌜ Leaves r drives (finishOf b (done .sectors) (done .code) bytes) ⌝ }
 {
     let drive = b.drive;
     let first = b.address;
     let sectors = done.sectors;
     if done.code == 0 {
-        return good(c, drive, sectors as u16, bytes);
+        return good(drives, drive, sectors as u16, bytes);
     }
     failed(
-        c,
+        drives,
         drive,
         done.code,
         Lba(first.0 + sectors as u32),

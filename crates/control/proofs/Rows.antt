@@ -1,22 +1,38 @@
 -- Rows of arrays of structs.
-use mathlib.Core.Path.{_≡_, refl, sym, _∙_}
-use mathlib.Core.List.{List, [], _∷_}
-use Prim.Native.Nat.{ℕ, zero, suc, _<_}
+use mathlib.Core.Path.{_≡_, refl}
+use mathlib.Core.Bool.{Bool, true, false}
+use mathlib.Core.List.{List, [], _∷_, map}
+use Prim.Native.Nat.{ℕ, zero, suc, _+_, _<_}
 use native.Mathlib.Nat.{le-of-suc-le-suc, not-suc-le-zero}
-use lib.ListN.{length, getD, length-map}
-use mir.Val.{Val}
-use denote.Laws.{Is}
-use denote.Struct.Declared.{row}
-use Rattle.model.specs.declared.record.Controller.{Controller}
-use Rattle.model.proofs.record.Controller as con
-use Rattle.model.proofs.record.Drive as drive
+use lib.ListN.{length, getD}
+use Rattle.model.specs.declared.table.Entry.{Entry}
+use Rattle.model.specs.Table.{table, unknown, entryOf}
+use Rattle.control.specs.declared.table.Row.{Row}
+use Rattle.control.specs.Rows.{has, entryFrom}
 
--- An element that a list has is the same whatever stands in for one that it lacks.
-pub row-same : {A : Type 0} (l : List A) (i : ℕ) (d₁ d₂ : A) → i < length l → getD l i d₁ ≡ getD l i d₂
-row-same [] i d₁ d₂ h = absurd (not-suc-le-zero h)
-row-same (x ∷ xs) zero d₁ d₂ h = refl
-row-same (x ∷ xs) (suc i) d₁ d₂ h = row-same xs i d₁ d₂ (le-of-suc-le-suc h)
+-- An element read of what each element stands for.
+row-read : {A B : Type 0} (f : A → B) (l : List A) (i : ℕ) (d₁ : A) (d₂ : B) → i < length l → f (getD l i d₁) ≡ getD (map f l) i d₂
+row-read f [] i d₁ d₂ h = absurd (not-suc-le-zero h)
+row-read f (x ∷ xs) zero d₁ d₂ h = refl
+row-read f (x ∷ xs) (suc i) d₁ d₂ h = row-read f xs i d₁ d₂ (le-of-suc-le-suc h)
 
--- A controller's record has four drives: its array lies in memory mapped, which keeps its length.
-pub four-drives : (c : Controller) (vs : List Val) → Is (row con.the-type) c vs → length (c .drives) ≡ 4
-four-drives c vs is = sym (length-map (c .drives) (drive.the-type .to)) ∙ is .1 .1 .1 .0 .1 .0 .1
+-- ---- the code's table: the definition's, its checks as bits
+unfoldable pub bit : Bool → ℕ → ℕ
+bit true n = n
+bit false n = 0
+
+unfoldable pub rowFrom : Entry → Row
+rowFrom e = record {
+  command = e .command;
+  checks = bit (e .known) 1 + bit (e .drive) 2 + bit (e .parameters) 4 + bit (e .address) 8 + bit (e .fill) 16 + bit (e .interleave) 32
+      + bit (e .counted) 64 + bit (e .settled) 128 + bit (e .whole) 256;
+  takes = e .takes;
+  gives = e .gives;
+}
+
+unfoldable pub rows : List Row
+rows = map rowFrom table
+
+pub rows-read : (opcode : ℕ) (d : Row) → opcode < 18 → entryFrom (getD rows opcode d) ≡ entryOf opcode
+unfolding rows rowFrom bit entryFrom has entryOf
+rows-read opcode d h = row-read entryFrom rows opcode d unknown h

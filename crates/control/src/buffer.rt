@@ -1,17 +1,16 @@
 // Bytes at the front of a slice; the commands that move the sense and the buffer.
+use crate::record::Ending;
 use crate::record::drive_at;
 use crate::record::good;
-use crate::record::with_buffer;
 use base::copy_bytes;
 use model::record::Answer;
-use model::record::Controller;
-use model::record::Outcome;
+use model::record::Drive;
 ghost use mathlib.Core.Path.{_≡_};
 ghost use Prim.Native.Nat.{_≤_, _<_};
 ghost use lib.ListN.{length};
 ghost use Rattle.base.specs.Part.{part, splice};
-ghost use Rattle.model.specs.Record.{driveAt, withBuffer, goodOutcome};
-ghost use Rattle.control.specs.Leaves.{senseOutcome};
+ghost use Rattle.model.specs.Record.{goodOutcome};
+ghost use Rattle.control.specs.Leaves.{driveIn, Leaves, senseOutcome};
 
 // All of src over the front of dst.
 pub fn put_front(dst: &mut [u8], src: &[u8])
@@ -22,26 +21,16 @@ pub fn put_front(dst: &mut [u8], src: &[u8])
     copy_bytes(&mut dst[0..n], src);
 }
 
-// A buffer with a sector at its front.
-pub fn with_front(buffer: [u8; 512], sector: &[u8]) -> [u8; 512]
-    requires { ⌜ length (now sector) ≤ 512 ⌝ }
-    ensures { λ r. ⌜ r ≡ splice 0 (now (sector .entry)) buffer ⌝ }
-{
-    let mut other = buffer;
-    put_front(&mut other, sector);
-    other
-}
-
 // Request Sense: the sense stays as it is.
-pub fn request_sense(c: Controller, drive: u8, area: &mut [u8]) -> Outcome
+pub fn request_sense(drives: [Drive; 4], drive: u8, area: &mut [u8]) -> Ending
     requires { ⌜ (drive < 4) × (4 ≤ length (now area)) ⌝ }
-    ensures { λ r. ⌜ (r ≡ senseOutcome drive c) × (now (area .exit) ≡ splice 0 (driveAt c drive .sense) (now (area .entry))) ⌝ }
+    ensures { λ r. ⌜ Leaves r drives (senseOutcome drive) × (length (driveIn drives drive .sense) ≡ 4) × (now (area .exit) ≡ splice 0 (driveIn drives drive .sense) (now (area .entry))) ⌝ }
 {
-    let entry = drive_at(c, drive);
+    let entry = drive_at(drives, drive);
     let sense = entry.sense;
     put_front(area, &sense);
-    Outcome {
-        controller: c,
+    Ending {
+        drives: drives,
         answer: Answer {
             number: 0,
             status: 32 * drive,
@@ -52,20 +41,18 @@ pub fn request_sense(c: Controller, drive: u8, area: &mut [u8]) -> Outcome
     }
 }
 
-pub fn read_buffer(c: Controller, drive: u8, area: &mut [u8]) -> Outcome
-    requires { ⌜ (drive < 4) × (512 ≤ length (now area)) ⌝ }
-    ensures { λ r. ⌜ (r ≡ goodOutcome drive 0 512 c) × (now (area .exit) ≡ splice 0 (c .buffer) (now (area .entry))) ⌝ }
+pub fn read_buffer(drives: [Drive; 4], drive: u8, buffer: &[u8], area: &mut [u8]) -> Ending
+    requires { ⌜ (drive < 4) × (length (now buffer) ≡ 512) × (512 ≤ length (now area)) ⌝ }
+    ensures { λ r. ⌜ Leaves r drives (goodOutcome drive 0 512) × (now (area .exit) ≡ splice 0 (now (buffer .entry)) (now (area .entry))) ⌝ }
 {
-    let buffer = c.buffer;
-    put_front(area, &buffer);
-    good(c, drive, 0, 512)
+    put_front(area, buffer);
+    good(drives, drive, 0, 512)
 }
 
-pub fn write_buffer(c: Controller, drive: u8, given: &[u8]) -> Outcome
-    requires { ⌜ (drive < 4) × (512 ≤ length (now given)) ⌝ }
-    ensures { λ r. ⌜ r ≡ goodOutcome drive 0 0 (withBuffer (part 0 512 (now (given .entry))) c) ⌝ }
+pub fn write_buffer(drives: [Drive; 4], drive: u8, buffer: &mut [u8], given: &[u8]) -> Ending
+    requires { ⌜ (drive < 4) × (length (now buffer) ≡ 512) × (512 ≤ length (now given)) ⌝ }
+    ensures { λ r. ⌜ Leaves r drives (goodOutcome drive 0 0) × (now (buffer .exit) ≡ part 0 512 (now (given .entry))) ⌝ }
 {
-    let mut buffer = [0u8; 512];
-    copy_bytes(&mut buffer, &given[0..512]);
-    good(with_buffer(c, buffer), drive, 0, 0)
+    copy_bytes(buffer, &given[0..512]);
+    good(drives, drive, 0, 0)
 }

@@ -2,7 +2,6 @@
 use crate::block::count_of;
 use crate::logic::both;
 use crate::logic::either;
-use crate::table::entry_of;
 use geometry::config::Setting;
 use geometry::params::Lba;
 use geometry::params::Params;
@@ -11,13 +10,14 @@ use model::table::Data;
 use model::table::Entry;
 use model::verdict::Verdict;
 ghost use mathlib.Core.Path.{_≡_};
-ghost use mathlib.Core.Bool.{not, _&&_, _||_};
+ghost use mathlib.Core.Bool.{not, _||_};
 ghost use mathlib.Core.List.{[], _∷_};
 ghost use Prim.Native.Nat.{_+_, _-_, _≤_, _<_};
-ghost use lib.Dec.{eqb, ltb};
+ghost use lib.Dec.{ltb};
 ghost use Rattle.base.specs.Pick.{pick};
 ghost use Rattle.geometry.specs.Params.{Within};
 ghost use Rattle.model.specs.declared.verdict.Verdict.the-variants.{Refused, Passed};
+ghost use Rattle.model.specs.Table.{entryOf};
 ghost use Rattle.model.specs.Checks.{on, judged, controlWrong, isValid, reach, sizeIn, bytesOf, judge};
 ghost use Rattle.control.specs.Limits.{Legal, limitsWith, limitsOf};
 
@@ -173,6 +173,7 @@ fn bytes_of(kind: Data, b: Block, setting: Setting) -> usize
 
 // A command of a block of six bytes, up to its own checks.
 pub fn judge(
+    e: Entry,
     b: Block,
     present: bool,
     setting: Setting,
@@ -180,10 +181,9 @@ pub fn judge(
     given: usize,
     area: usize,
 ) -> Verdict
-    requires { ⌜ Legal setting × (b .address .0 < 2097152) ⌝ }
+    requires { ⌜ (e ≡ entryOf (b .opcode)) × Legal setting × (b .address .0 < 2097152) ⌝ }
     ensures { λ r. ⌜ r ≡ judge b (record { present = present; setting = setting; pending = pending }) given area ⌝ }
 {
-    let e = entry_of(b.opcode);
     let takes = e.takes;
     let gives = e.gives;
     order(

@@ -1,49 +1,46 @@
-// The controller's record, and the three ways in which a call ends.
+// The four drives of a controller's record, and the three ways in which a call ends.
 use crate::sense::sense_of;
 use geometry::config::Setting;
 use geometry::config::setting_of;
 use geometry::params::Lba;
 use model::record::Answer;
-use model::record::Controller;
 use model::record::Drive;
-use model::record::Outcome;
 ghost use mathlib.Core.Path.{_≡_};
 ghost use Prim.Native.Nat.{_<_};
-ghost use Rattle.model.specs.Record.{driveAt, withDrive, withBuffer, withSense, settingIn, bareOutcome, failedOutcome, goodOutcome};
+ghost use lib.ListN.{set};
+ghost use Rattle.model.specs.Record.{sensed, settingIn, bareOutcome, failedOutcome, goodOutcome};
+ghost use Rattle.control.specs.Leaves.{driveIn, Bare, Leaves};
 
-pub fn drive_at(c: Controller, drive: u8) -> Drive
-    requires { ⌜ drive < 4 ⌝ }
-    ensures { λ r. ⌜ r ≡ driveAt c drive ⌝ }
-{
-    c.drives[drive as usize]
+// What a command leaves of the four drives, and its answer. The buffer is lent to those that change it, so that its 512 bytes
+// are not copied from step to step.
+pub struct Ending {
+    pub drives: [Drive; 4],
+    pub answer: Answer,
 }
 
-pub fn with_drive(c: Controller, drive: u8, entry: Drive) -> Controller
+pub fn drive_at(drives: [Drive; 4], drive: u8) -> Drive
     requires { ⌜ drive < 4 ⌝ }
-    ensures { λ r. ⌜ r ≡ withDrive drive entry c ⌝ }
+    ensures { λ r. ⌜ r ≡ driveIn drives drive ⌝ }
 {
-    let mut other = c;
-    other.drives[drive as usize] = entry;
+    drives[drive as usize]
+}
+
+pub fn with_drive(drives: [Drive; 4], drive: u8, entry: Drive) -> [Drive; 4]
+    requires { ⌜ drive < 4 ⌝ }
+    ensures { λ r. ⌜ r ≡ set drives drive entry ⌝ }
+{
+    let mut other = drives;
+    other[drive as usize] = entry;
     other
 }
 
-pub fn with_buffer(c: Controller, buffer: [u8; 512]) -> Controller
-    ensures { λ r. ⌜ r ≡ withBuffer buffer c ⌝ }
-{
-    let drives = c.drives;
-    Controller {
-        buffer: buffer,
-        drives: drives,
-    }
-}
-
-fn with_sense(c: Controller, drive: u8, sense: [u8; 4]) -> Controller
+fn with_sense(drives: [Drive; 4], drive: u8, sense: [u8; 4]) -> [Drive; 4]
     requires { ⌜ drive < 4 ⌝ }
-    ensures { λ r. ⌜ r ≡ withSense drive sense c ⌝ }
+    ensures { λ r. ⌜ r ≡ set drives drive (sensed sense (driveIn drives drive)) ⌝ }
 {
-    let mut entry = drive_at(c, drive);
+    let mut entry = drive_at(drives, drive);
     entry.sense = sense;
-    with_drive(c, drive, entry)
+    with_drive(drives, drive, entry)
 }
 
 // A drive's parameters in force, judged anew with the image lent.
@@ -57,28 +54,34 @@ pub fn setting_in(entry: Drive, image: usize) -> Setting
     Setting::Invalid
 }
 
-// Numbers 1, 2 and 3; Reset's zeros too.
-pub fn refused(c: Controller, number: u8) -> Outcome
-    ensures { λ r. ⌜ r ≡ bareOutcome number c ⌝ }
+// The answer with numbers 1, 2 and 3, and that of Reset.
+pub fn bare_answer(number: u8) -> Answer
+    ensures { λ r. ⌜ Bare r number ⌝ }
 {
-    Outcome {
-        controller: c,
-        answer: Answer {
-            number: number,
-            status: 0,
-            message: 0,
-            sectors: 0,
-            bytes: 0,
-        },
+    Answer {
+        number: number,
+        status: 0,
+        message: 0,
+        sectors: 0,
+        bytes: 0,
     }
 }
 
-pub fn failed(c: Controller, drive: u8, code: u8, at: Lba, sectors: u16, bytes: u32) -> Outcome
-    requires { ⌜ (drive < 4) × (code < 0x80) × (at .0 < 2097152) ⌝ }
-    ensures { λ r. ⌜ r ≡ failedOutcome drive code at sectors bytes c ⌝ }
+pub fn refused(drives: [Drive; 4], number: u8) -> Ending
+    ensures { λ r. ⌜ Leaves r drives (bareOutcome number) ⌝ }
 {
-    Outcome {
-        controller: with_sense(c, drive, sense_of(code, drive, at)),
+    Ending {
+        drives: drives,
+        answer: bare_answer(number),
+    }
+}
+
+pub fn failed(drives: [Drive; 4], drive: u8, code: u8, at: Lba, sectors: u16, bytes: u32) -> Ending
+    requires { ⌜ (drive < 4) × (code < 0x80) × (at .0 < 2097152) ⌝ }
+    ensures { λ r. ⌜ Leaves r drives (failedOutcome drive code at sectors bytes) ⌝ }
+{
+    Ending {
+        drives: with_sense(drives, drive, sense_of(code, drive, at)),
         answer: Answer {
             number: 0,
             status: 2 + 32 * drive,
@@ -89,12 +92,12 @@ pub fn failed(c: Controller, drive: u8, code: u8, at: Lba, sectors: u16, bytes: 
     }
 }
 
-pub fn good(c: Controller, drive: u8, sectors: u16, bytes: u32) -> Outcome
+pub fn good(drives: [Drive; 4], drive: u8, sectors: u16, bytes: u32) -> Ending
     requires { ⌜ drive < 4 ⌝ }
-    ensures { λ r. ⌜ r ≡ goodOutcome drive sectors bytes c ⌝ }
+    ensures { λ r. ⌜ Leaves r drives (goodOutcome drive sectors bytes) ⌝ }
 {
-    Outcome {
-        controller: with_sense(c, drive, sense_of(0, drive, Lba(0))),
+    Ending {
+        drives: with_sense(drives, drive, sense_of(0, drive, Lba(0))),
         answer: Answer {
             number: 0,
             status: 32 * drive,

@@ -3,232 +3,176 @@ use model::table::Command;
 use model::table::Data;
 use model::table::Entry;
 ghost use mathlib.Core.Path.{_≡_};
+ghost use Prim.Native.Nat.{_<_};
 ghost use Rattle.model.specs.Table.{entryOf};
+ghost use Rattle.control.specs.Rows.{has, entryFrom};
 
-const UNKNOWN: Entry = Entry {
+// The checks that apply, as bits: a row of six bytes is cheap to index.
+// else 20h
+const KNOWN: u16 = 1;
+// 04h
+const DRIVE: u16 = 2;
+// 0Ah
+const PARAMETERS: u16 = 4;
+// control bits and the address
+const ADDRESS: u16 = 8;
+// control bit 5 is defined
+const FILL: u16 = 16;
+// byte 4 is an interleave
+const INTERLEAVE: u16 = 32;
+// byte 4 is a count
+const COUNTED: u16 = 64;
+// 16h
+const SETTLED: u16 = 128;
+// but not from track 0 on
+const WHOLE: u16 = 256;
+
+const ON_DRIVE: u16 = KNOWN + DRIVE + PARAMETERS;
+
+const ON_TRACK: u16 = ON_DRIVE + ADDRESS + SETTLED;
+
+pub struct Row {
+    pub command: Command,
+    pub checks: u16,
+    pub takes: Data,
+    pub gives: Data,
+}
+
+const UNKNOWN: Row = Row {
     command: Command::Unknown,
-    known: false,
-    drive: false,
-    parameters: false,
-    address: false,
-    fill: false,
-    interleave: false,
-    counted: false,
-    settled: false,
-    whole: false,
+    checks: 0,
     takes: Data::Nothing,
     gives: Data::Nothing,
 };
 
-const TABLE: [Entry; 18] = [
-    Entry {
+const TABLE: [Row; 18] = [
+    Row {
         command: Command::TestReady,
-        known: true,
-        drive: true,
-        parameters: true,
-        address: false,
-        fill: false,
-        interleave: false,
-        counted: false,
-        settled: false,
-        whole: false,
+        checks: ON_DRIVE,
         takes: Data::Nothing,
         gives: Data::Nothing,
     },
-    Entry {
+    Row {
         command: Command::Recalibrate,
-        known: true,
-        drive: true,
-        parameters: true,
-        address: false,
-        fill: false,
-        interleave: false,
-        counted: false,
-        settled: false,
-        whole: false,
+        checks: ON_DRIVE,
         takes: Data::Nothing,
         gives: Data::Nothing,
     },
     UNKNOWN,
-    Entry {
+    Row {
         command: Command::RequestSense,
-        known: true,
-        drive: false,
-        parameters: false,
-        address: false,
-        fill: false,
-        interleave: false,
-        counted: false,
-        settled: false,
-        whole: false,
+        checks: KNOWN,
         takes: Data::Nothing,
         gives: Data::Sense,
     },
-    Entry {
+    Row {
         command: Command::FormatDrive,
-        known: true,
-        drive: true,
-        parameters: true,
-        address: true,
-        fill: true,
-        interleave: true,
-        counted: false,
-        settled: true,
-        whole: true,
+        checks: ON_TRACK + FILL + INTERLEAVE + WHOLE,
         takes: Data::Nothing,
         gives: Data::Nothing,
     },
-    Entry {
+    Row {
         command: Command::CheckTrack,
-        known: true,
-        drive: true,
-        parameters: true,
-        address: true,
-        fill: false,
-        interleave: true,
-        counted: false,
-        settled: true,
-        whole: false,
+        checks: ON_TRACK + INTERLEAVE,
         takes: Data::Nothing,
         gives: Data::Nothing,
     },
-    Entry {
+    Row {
         command: Command::FormatTrack,
-        known: true,
-        drive: true,
-        parameters: true,
-        address: true,
-        fill: true,
-        interleave: true,
-        counted: false,
-        settled: true,
-        whole: false,
+        checks: ON_TRACK + FILL + INTERLEAVE,
         takes: Data::Nothing,
         gives: Data::Nothing,
     },
-    Entry {
+    Row {
         command: Command::FormatBadTrack,
-        known: true,
-        drive: true,
-        parameters: true,
-        address: true,
-        fill: false,
-        interleave: true,
-        counted: false,
-        settled: true,
-        whole: false,
+        checks: ON_TRACK + INTERLEAVE,
         takes: Data::Nothing,
         gives: Data::Nothing,
     },
-    Entry {
+    Row {
         command: Command::Read,
-        known: true,
-        drive: true,
-        parameters: true,
-        address: true,
-        fill: false,
-        interleave: false,
-        counted: true,
-        settled: true,
-        whole: false,
+        checks: ON_TRACK + COUNTED,
         takes: Data::Nothing,
         gives: Data::Sectors,
     },
     UNKNOWN,
-    Entry {
+    Row {
         command: Command::Write,
-        known: true,
-        drive: true,
-        parameters: true,
-        address: true,
-        fill: false,
-        interleave: false,
-        counted: true,
-        settled: true,
-        whole: false,
+        checks: ON_TRACK + COUNTED,
         takes: Data::Sectors,
         gives: Data::Nothing,
     },
-    Entry {
+    Row {
         command: Command::Seek,
-        known: true,
-        drive: true,
-        parameters: true,
-        address: true,
-        fill: false,
-        interleave: false,
-        counted: false,
-        settled: true,
-        whole: false,
+        checks: ON_TRACK,
         takes: Data::Nothing,
         gives: Data::Nothing,
     },
     UNKNOWN,
     UNKNOWN,
-    Entry {
+    Row {
         command: Command::AssignAlternate,
-        known: true,
-        drive: true,
-        parameters: true,
-        address: true,
-        fill: true,
-        interleave: true,
-        counted: false,
-        settled: true,
-        whole: false,
+        checks: ON_TRACK + FILL + INTERLEAVE,
         takes: Data::Alternate,
         gives: Data::Nothing,
     },
-    Entry {
+    Row {
         command: Command::WriteBuffer,
-        known: true,
-        drive: false,
-        parameters: false,
-        address: false,
-        fill: false,
-        interleave: false,
-        counted: false,
-        settled: false,
-        whole: false,
+        checks: KNOWN,
         takes: Data::Buffer,
         gives: Data::Nothing,
     },
-    Entry {
+    Row {
         command: Command::ReadBuffer,
-        known: true,
-        drive: false,
-        parameters: false,
-        address: false,
-        fill: false,
-        interleave: false,
-        counted: false,
-        settled: false,
-        whole: false,
+        checks: KNOWN,
         takes: Data::Nothing,
         gives: Data::Buffer,
     },
-    Entry {
+    Row {
         command: Command::Initialize,
-        known: true,
-        drive: true,
-        parameters: false,
-        address: false,
-        fill: false,
-        interleave: false,
-        counted: false,
-        settled: false,
-        whole: false,
+        checks: KNOWN + DRIVE,
         takes: Data::Configuration,
         gives: Data::Nothing,
     },
 ];
 
-// The table's row for an opcode.
-pub fn entry_of(opcode: u8) -> Entry
-    ensures { λ r. ⌜ r ≡ entryOf opcode ⌝ }
+fn row_of(opcode: u8) -> Row
+    ensures { λ r. ⌜ entryFrom r ≡ entryOf opcode ⌝ }
 {
     if opcode < 18 {
         return TABLE[opcode as usize];
     }
     UNKNOWN
+}
+
+fn has(checks: u16, bit: u16) -> bool
+    requires { ⌜ 0 < bit ⌝ }
+    ensures { λ r. ⌜ r ≡ has bit checks ⌝ }
+{
+    checks / bit % 2 == 1
+}
+
+// What the table says of an opcode.
+pub fn entry_of(opcode: u8) -> Entry
+    ensures { λ r. ⌜ r ≡ entryOf opcode ⌝ }
+{
+    let row = row_of(opcode);
+    let command = row.command;
+    let checks = row.checks;
+    let takes = row.takes;
+    let gives = row.gives;
+    Entry {
+        command: command,
+        known: has(checks, KNOWN),
+        drive: has(checks, DRIVE),
+        parameters: has(checks, PARAMETERS),
+        address: has(checks, ADDRESS),
+        fill: has(checks, FILL),
+        interleave: has(checks, INTERLEAVE),
+        counted: has(checks, COUNTED),
+        settled: has(checks, SETTLED),
+        whole: has(checks, WHOLE),
+        takes: takes,
+        gives: gives,
+    }
 }

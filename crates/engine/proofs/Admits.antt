@@ -3,16 +3,12 @@ use Prim.Native.Nat.{ℕ, _+_, _*_, _≤_, _<_}
 use mathlib.Core.Path.{_≡_, refl, ap, subst, _∙_}
 use mathlib.Core.Bool.{true, false}
 use mathlib.Core.List.{List}
-use native.Mathlib.Omega.{arith}
 use lib.ListN.{length}
 use Rattle.geometry.specs.declared.params.Params.{Params}
 use Rattle.geometry.specs.declared.config.Setting.{Setting}
 use Rattle.geometry.specs.declared.config.Setting.the-variants.{Valid}
 use Rattle.geometry.specs.Params.{trackCount, trackOf}
 use Rattle.geometry.proofs.Settings.{setting-within}
-use Rattle.track.specs.declared.id.State.{State}
-use Rattle.track.specs.declared.id.State.the-variants.{Sound, Bad}
-use Rattle.track.specs.Id.{partnerOf}
 use Rattle.track.specs.Image.{Fits}
 use Rattle.model.specs.declared.block.Block.{Block}
 use Rattle.model.specs.declared.table.Command.{Command}
@@ -100,19 +96,13 @@ module _ {c : Controller} {b : Block} {given area : ℕ} (image : List ℕ) {p :
   unfolding entryOf opcodeFor
   check-admits is = on-track CheckTrack is refl refl refl
 
-  -- a sound track and a bad one have no partner
-  abbrev Formats : State → Type 0
-  Formats state =
-      Fits p image × (b .drive < 4) × (b .address .0 < 2097152) × (trackOf p (b .address) .0 < trackCount p) × (b .extra < p .sectors)
-      × (partnerOf state .0 < 65536)
+  pub sound-admits : entryOf (b .opcode) .command ≡ FormatTrack → OnTrack b p image
+  unfolding entryOf opcodeFor
+  sound-admits is = on-track FormatTrack is refl refl refl
 
-  pub sound-admits : entryOf (b .opcode) .command ≡ FormatTrack → Formats Sound
-  unfolding entryOf opcodeFor partnerOf
-  sound-admits is = let t = on-track FormatTrack is refl refl refl in (t .0, t .1, t .2, t .3, t .4, omega arith)
-
-  pub bad-admits : entryOf (b .opcode) .command ≡ FormatBadTrack → Formats Bad
-  unfolding entryOf opcodeFor partnerOf
-  bad-admits is = let t = on-track FormatBadTrack is refl refl refl in (t .0, t .1, t .2, t .3, t .4, omega arith)
+  pub bad-admits : entryOf (b .opcode) .command ≡ FormatBadTrack → OnTrack b p image
+  unfolding entryOf opcodeFor
+  bad-admits is = on-track FormatBadTrack is refl refl refl
 
   pub assign-admits : entryOf (b .opcode) .command ≡ AssignAlternate
       → Fits p image × (b .drive < 4) × (b .address .0 < 2097152) × (trackOf p (b .address) .0 < trackCount p) × (b .extra < p .sectors)

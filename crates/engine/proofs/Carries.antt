@@ -3,19 +3,18 @@ use Prim.Native.Nat.{ℕ}
 use mathlib.Core.Path.{_≡_, sym, _∙_}
 use mathlib.Core.List.{List, []}
 use lib.ListN.{length}
-use Rattle.base.specs.Part.{splice}
+use Rattle.base.specs.Part.{part, splice}
 use Rattle.geometry.specs.declared.params.Params.{Params}
 use Rattle.geometry.specs.declared.config.Setting.{Setting}
 use Rattle.geometry.specs.declared.config.Setting.the-variants.{Valid}
-use Rattle.track.specs.declared.id.State.{State}
 use Rattle.model.specs.declared.block.Block.{Block}
 use Rattle.model.specs.declared.table.Command.{Command}
-use Rattle.model.specs.declared.table.Command.the-variants.{RequestSense, Read, Write, ReadBuffer}
+use Rattle.model.specs.declared.table.Command.the-variants.{RequestSense, Read, Write, ReadBuffer, WriteBuffer}
 use Rattle.model.specs.declared.record.Controller.{Controller}
 use Rattle.model.specs.declared.record.Outcome.{Outcome}
-use Rattle.model.specs.Record.{driveAt, Effect, good, failed, goodOutcome, failedOutcome}
-use Rattle.model.specs.Commands.{requestSense, formatTrack, onDisk, carryOut}
-use Rattle.control.specs.Leaves.{senseOutcome, silent, leftNow, leftBy}
+use Rattle.model.specs.Record.{driveAt, withBuffer, Effect, good, failed, goodOutcome, failedOutcome}
+use Rattle.model.specs.Commands.{requestSense, onDisk, carryOut}
+use Rattle.control.specs.Leaves.{driveIn, recordOf, senseOutcome, silent, leftNow, leftBy}
 use Rattle.commands.specs.Transfers.{ReadLeaves, WriteLeaves}
 use Rattle.engine.specs.Runs.{Carried}
 
@@ -42,24 +41,22 @@ module _ (b : Block) (setting : Setting) (given : List ℕ) (c : Controller) (ar
     unfolding failed
     failing-carries code e left = carries _ e image (rw left)
 
-    -- the fill that the code makes is the command's
-    pub format-carries : (p : Params) (state : State) (fill made after : List ℕ)
-        → carryOut [] b setting given c image k ≡ formatTrack b p state fill c image → made ≡ fill
-        → silent outcome after ≡ formatTrack b p state made c image → Carried b setting given c area image command (leftNow outcome area after)
-    format-carries p state fill made after e same left = carries _ (rw same e) after left
-
   -- ---- commands that hand bytes over
-  pub sense-carries : command ≡ RequestSense → length (driveAt c (b .drive) .sense) ≡ 4 → (after : List ℕ)
-      → (outcome ≡ senseOutcome (b .drive) c) × (after ≡ splice 0 (driveAt c (b .drive) .sense) area)
+  pub sense-carries : command ≡ RequestSense → (after : List ℕ) → outcome ≡ senseOutcome (b .drive) c
+      → length (driveIn (c .drives) (b .drive) .sense) ≡ 4 → after ≡ splice 0 (driveIn (c .drives) (b .drive) .sense) area
       → Carried b setting given c area image command (leftNow outcome after image)
-  unfolding carryOut requestSense good leftBy
-  sense-carries is four after left = ([], rw (is, left .0, left .1, four))
+  unfolding carryOut requestSense good leftBy driveAt
+  sense-carries is after eo four ea = ([], rw (is, eo, ea, four))
 
-  pub buffer-carries : command ≡ ReadBuffer → length (c .buffer) ≡ 512 → (after : List ℕ)
-      → (outcome ≡ goodOutcome (b .drive) 0 512 c) × (after ≡ splice 0 (c .buffer) area)
-      → Carried b setting given c area image command (leftNow outcome after image)
+  pub buffer-carries : command ≡ ReadBuffer → (after : List ℕ) → length (c .buffer) ≡ 512 → outcome ≡ goodOutcome (b .drive) 0 512 c
+      → after ≡ splice 0 (c .buffer) area → Carried b setting given c area image command (leftNow outcome after image)
   unfolding carryOut good leftBy
-  buffer-carries is whole after left = ([], rw (is, left .0, left .1, whole))
+  buffer-carries is after whole eo ea = ([], rw (is, eo, ea, whole))
+
+  pub buffered-carries : command ≡ WriteBuffer → (buffer : List ℕ) → buffer ≡ part 0 512 given
+      → outcome ≡ goodOutcome (b .drive) 0 0 (recordOf buffer (c .drives)) → Carried b setting given c area image command (leftNow outcome area image)
+  unfolding carryOut withBuffer
+  buffered-carries is buffer eb eo = well-carries WriteBuffer is (recordOf buffer (c .drives)) (rw eb) eo
 
 -- ---- transfers: the choices are those that the function made
 module _ (b : Block) (p : Params) (given : List ℕ) (c : Controller) (area image : List ℕ) (command : Command) (outcome : Outcome)

@@ -28,21 +28,21 @@ use Rattle.model.specs.Table.{entryOf}
 use Rattle.model.specs.Checks.{judged, View, presentWith, testsWith, tests, lengthsWith, judge}
 use Rattle.model.specs.Record.{driveAt, settingIn, bareOutcome, failedOutcome, Effect, refused, failed, unless}
 use Rattle.model.specs.Commands.{carryOut}
-use Rattle.model.specs.Engine.{viewOf, obey, imageOf, left, execute, Executed}
+use Rattle.model.specs.Engine.{viewOf, obey, imageOf, left, Result, execute, Executed}
 use Rattle.control.specs.Limits.{Legal}
-use Rattle.control.specs.Leaves.{Left, leftNow, leftBy}
-use Rattle.engine.specs.Runs.{Admitted, Carried, Obeyed, resultNow}
+use Rattle.control.specs.Leaves.{driveIn, Left, leftNow, leftBy}
+use Rattle.engine.specs.Runs.{Admitted, Carried, Obeyed, OnImages, resultNow}
 use Rattle.model.proofs.Judged.{fault-in, fault-none}
 
 -- ---- the row of a command
 pub command-of : (opcode : ℕ) (e : Entry) → e ≡ entryOf opcode → entryOf opcode .command ≡ e .command
 command-of opcode e is = rw is
 
--- the same setting and command by other names
-pub carried-as : (b : Block) (s s₁ : Setting) (given : List ℕ) (c : Controller) (area image : List ℕ) (k k₁ : Command) (outcome : Outcome)
-    (after made : List ℕ) → s ≡ s₁ → k ≡ k₁ → Carried b s₁ given c area image k₁ (leftNow outcome after made)
+-- the same setting by another name
+pub carried-as : (b : Block) (s s₁ : Setting) (given : List ℕ) (c : Controller) (area image : List ℕ) (k : Command) (outcome : Outcome)
+    (after made : List ℕ) → s ≡ s₁ → Carried b s₁ given c area image k (leftNow outcome after made)
     → Carried b s given c area image k (leftNow outcome after made)
-carried-as b s s₁ given c area image k k₁ outcome after made es ek h = rw (es, ek) h
+carried-as b s s₁ given c area image k outcome after made es h = rw es h
 
 -- ---- a drive's setting is legal
 legal-pick : (known : Bool) (s : Setting) → Legal s → Legal (pick known s Invalid)
@@ -55,9 +55,9 @@ unfolding settingIn
 setting-legal entry image s is = rw is (legal-pick (entry .known) _ (λ p e. setting-within _ _ p e .0))
 
 -- the setting by the drive that was looked up
-pub setting-named : (c : Controller) (drive image : ℕ) (entry : Drive) (s : Setting) → entry ≡ driveAt c drive → s ≡ settingIn entry image
-    → settingIn (driveAt c drive) image ≡ s
-setting-named c drive image entry s ee es = rw (es, ee)
+pub setting-named : (drives : List Drive) (drive image : ℕ) (entry : Drive) (s : Setting) → entry ≡ driveIn drives drive → s ≡ settingIn entry image
+    → settingIn (driveIn drives drive) image ≡ s
+setting-named drives drive image entry s ee es = rw (es, ee)
 
 -- lengths give a refusal, never a fault
 short-refused : (short small : Bool) (k : ℕ) (l : Lba) → pick short (Refused 2) (pick small (Refused 3) Passed) ≡ Faulty k l → ⊥
@@ -98,10 +98,10 @@ module _ (b : Block) (view : View) (given area : ℕ) (verdict : Verdict) (is : 
 
 -- what the code looks at is the drive's view
 pub view-is : (b : Block) (c : Controller) (image given area : ℕ) (entry : Drive) (s : Setting) (verdict : Verdict)
-    → entry ≡ driveAt c (b .drive) → s ≡ settingIn entry image
+    → entry ≡ driveIn (c .drives) (b .drive) → s ≡ settingIn entry image
     → verdict ≡ judge b (record { present = leb 16 image; setting = s; pending = entry .pending }) given area
     → verdict ≡ judge b (viewOf (driveAt c (b .drive)) image) given area
-unfolding viewOf presentWith
+unfolding viewOf presentWith driveAt
 view-is b c image given area entry s verdict ee es is = is ∙ rw (es, ee)
 
 -- a command that passes is admitted
@@ -135,10 +135,10 @@ module _ (b : Block) (given : List ℕ) (c : Controller) (area image : List ℕ)
   unfolding unless failed leftBy
   obey-failed outcome code at e eo = left-by [] _ (rw (e, eo, splice-none area))
 
-  pub obey-carried : (s : Setting) (l : Left) → verdict ≡ Passed → settingIn (driveAt c (b .drive)) (length image) ≡ s
-      → Carried b s given c area image (entryOf (b .opcode) .command) l → Obeyed b given c area image l
-  unfolding unless
-  obey-carried s l e es h = left-by (h .0) l (rw (e, es) (h .1))
+  pub obey-carried : (s : Setting) (command : Command) (l : Left) → verdict ≡ Passed → settingIn (driveIn (c .drives) (b .drive)) (length image) ≡ s
+      → entryOf (b .opcode) .command ≡ command → Carried b s given c area image command l → Obeyed b given c area image l
+  unfolding unless driveAt
+  obey-carried s command l e es ek h = left-by (h .0) l (rw (e, es, ek) (h .1))
 
 -- ---- the fields of a block
 pub block-fields : (bytes : List ℕ) (b : Block) → b ≡ blockOf bytes → ((i : ℕ) → byte bytes i < 256) → (b .drive < 4) × (b .address .0 < 2097152)
@@ -152,39 +152,45 @@ left-put : (drive : ℕ) (effect : Effect) (area image0 image1 : List ℕ) (l : 
 unfolding left leftBy
 left-put drive effect area image0 image1 l e = rw e
 
+-- ---- the image of the drive that is named
+module _ (b : Block) (given : List ℕ) (c : Controller) (area image0 image1 : List ℕ) (outcome : Outcome) (after image : List ℕ) where
+  -- from what the command leaves on the image of its drive
+  on-own : (own left0 left1 : List ℕ) → own ≡ imageOf (b .drive) image0 image1
+      → left0 ≡ pick (eqb (b .drive) 0) image image0 → left1 ≡ pick (eqb (b .drive) 1) image image1
+      → Obeyed b given c area own (leftNow outcome after image) → OnImages b given c area image0 image1 (resultNow outcome after left0 left1)
+  on-own own left0 left1 e e₀ e₁ h =
+      let effect = obey (h .0) b given (length area) c (imageOf (b .drive) image0 image1) in
+      let is : leftNow outcome after image ≡ leftBy effect area = rw (← e) (h .1) in
+      (h .0, rw (e₀, e₁) (left-put (b .drive) effect area image0 image1 _ is))
+
+  pub on-first : b .drive ≡ 0 → Obeyed b given c area image0 (leftNow outcome after image)
+      → OnImages b given c area image0 image1 (resultNow outcome after image image1)
+  unfolding imageOf pick
+  on-first h = on-own image0 image image1 (rw h) (rw h) (rw h)
+
+  pub on-second : b .drive ≡ 1 → Obeyed b given c area image1 (leftNow outcome after image)
+      → OnImages b given c area image0 image1 (resultNow outcome after image0 image)
+  unfolding imageOf pick
+  on-second h = on-own image1 image0 image (rw h) (rw h) (rw h)
+
+  -- what the command does to an image of no bytes is dropped
+  pub on-none : (b .drive ≡ 0 → ⊥) → (b .drive ≡ 1 → ⊥) → length image ≡ 0 → Obeyed b given c area [] (leftNow outcome after image)
+      → OnImages b given c area image0 image1 (resultNow outcome after (image ++ image0) image1)
+  unfolding imageOf
+  on-none h₀ h₁ none =
+      let n₀ = ne-eqb (b .drive) 0 h₀ in
+      let n₁ = ne-eqb (b .drive) 1 h₁ in
+      on-own [] (image ++ image0) image1 (rw (pick-false _ _ _ n₀, pick-false _ _ _ n₁))
+      (rw (length-none image none, pick-false _ _ _ n₀)) (rw (pick-false _ _ _ n₁))
+
+-- ---- the block
 module _ (c : Controller) (block given area image0 image1 : List ℕ) where
   pub execute-refused : (outcome : Outcome) → (length block ≡ 6 → ⊥) → outcome ≡ bareOutcome 1 c
       → Executed c block given area image0 image1 (resultNow outcome area image0 image1)
   unfolding Executed execute
   execute-refused outcome h e = ([], rw (pick-false _ _ _ (ne-eqb _ _ h), e))
 
-  module _ (six : length block ≡ 6) (b : Block) (eb : b ≡ blockOf block) (outcome : Outcome) (after image : List ℕ) where
-    -- from what the command leaves on the image of its drive
-    executed : (own left0 left1 : List ℕ) → own ≡ imageOf (b .drive) image0 image1
-        → left0 ≡ pick (eqb (b .drive) 0) image image0 → left1 ≡ pick (eqb (b .drive) 1) image image1
-        → Obeyed b given c area own (leftNow outcome after image) → Executed c block given area image0 image1 (resultNow outcome after left0 left1)
-    unfolding Executed execute
-    executed own left0 left1 e e₀ e₁ h =
-        let effect = obey (h .0) b given (length area) c (imageOf (b .drive) image0 image1) in
-        let is : leftNow outcome after image ≡ leftBy effect area = rw (← e) (h .1) in
-        (h .0, rw (pick-true _ _ _ (eq-eqb _ _ six), ← eb, e₀, e₁) (left-put (b .drive) effect area image0 image1 _ is))
-
-    pub execute-first : b .drive ≡ 0 → Obeyed b given c area image0 (leftNow outcome after image)
-        → Executed c block given area image0 image1 (resultNow outcome after image image1)
-    unfolding imageOf pick
-    execute-first h = executed image0 image image1 (rw h) (rw h) (rw h)
-
-    pub execute-second : b .drive ≡ 1 → Obeyed b given c area image1 (leftNow outcome after image)
-        → Executed c block given area image0 image1 (resultNow outcome after image0 image)
-    unfolding imageOf pick
-    execute-second h = executed image1 image0 image (rw h) (rw h) (rw h)
-
-    -- what the command does to an image of no bytes is dropped
-    pub execute-absent : (b .drive ≡ 0 → ⊥) → (b .drive ≡ 1 → ⊥) → length image ≡ 0 → Obeyed b given c area [] (leftNow outcome after image)
-        → Executed c block given area image0 image1 (resultNow outcome after (image ++ image0) image1)
-    unfolding imageOf
-    execute-absent h₀ h₁ none =
-        let n₀ = ne-eqb (b .drive) 0 h₀ in
-        let n₁ = ne-eqb (b .drive) 1 h₁ in
-        executed [] (image ++ image0) image1 (rw (pick-false _ _ _ n₀, pick-false _ _ _ n₁))
-        (rw (length-none image none, pick-false _ _ _ n₀)) (rw (pick-false _ _ _ n₁))
+  pub execute-six : length block ≡ 6 → (b : Block) → b ≡ blockOf block → (result : Result) → OnImages b given c area image0 image1 result
+      → Executed c block given area image0 image1 result
+  unfolding Executed execute
+  execute-six six b eb result h = (h .0, rw (pick-true _ _ _ (eq-eqb _ _ six), ← eb) (h .1))

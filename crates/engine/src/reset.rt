@@ -1,5 +1,5 @@
 // Reset, and a fresh controller.
-use control::record::refused;
+use control::record::bare_answer;
 use geometry::config::Setting;
 use geometry::config::label_config;
 use geometry::config::label_setting;
@@ -8,7 +8,7 @@ use model::record::Drive;
 use model::record::Outcome;
 ghost use mathlib.Core.Path.{_≡_};
 ghost use Rattle.model.specs.Record.{blankDrive};
-ghost use Rattle.model.specs.Engine.{loadedBy, loaded, fresh, resetOf};
+ghost use Rattle.model.specs.Engine.{loaded, fresh, resetOf};
 
 fn blank_drive() -> Drive
     ensures { λ r. ⌜ r ≡ blankDrive ⌝ }
@@ -52,5 +52,8 @@ pub fn fresh(image0: &[u8], image1: &[u8]) -> Controller
 pub fn reset(image0: &[u8], image1: &[u8]) -> Outcome
     ensures { λ r. ⌜ r ≡ resetOf (now (image0 .entry)) (now (image1 .entry)) ⌝ }
 {
-    refused(fresh(image0, image1), 0)
+    Outcome {
+        controller: fresh(image0, image1),
+        answer: bare_answer(0),
+    }
 }

@@ -21,6 +21,10 @@ round-up p n h = mod-eq-of-lt h
 round-end : (p n : ℕ) → p + 1 ≡ n → (p + 1) % n ≡ 0
 round-end p n e = ap (λ (k : ℕ). k % n) e ∙ mod-self n
 
+-- a number counted round is a slot's
+pub round-lt : (x n r : ℕ) → 0 < n → r ≡ x % n → r < n
+round-lt x n r h e = rw e (mod-lt x h)
+
 -- j is reached from p in i steps, upward and round
 Reached : ℕ → ℕ → ℕ → ℕ → Type 0
 Reached n p i j = (p + i ≡ j) ⊎ (p + i ≡ j + n)
@@ -72,10 +76,10 @@ look-here m n p zero l e = absurd (not-suc-le-zero l)
 look-here m n p (suc k) l e = simp (eq-eqb _ _ e)
 
 -- and goes on to the next slot where it is not
-pub look-on : (m : List ℕ) (n p k : ℕ) → 0 < k → (getD m p 0 ≡ n → ⊥) → emptyFrom m n k p ≡ emptyFrom m n (k - 1) ((p + 1) % n)
+pub look-on : (m : List ℕ) (n p q k : ℕ) → 0 < k → q ≡ (p + 1) % n → (getD m p 0 ≡ n → ⊥) → emptyFrom m n k p ≡ emptyFrom m n (k - 1) q
 unfolding emptyFrom pick
-look-on m n p zero l ne = absurd (not-suc-le-zero l)
-look-on m n p (suc k) l ne = simp (ne-eqb _ _ ne, sub-one)
+look-on m n p q zero l e ne = absurd (not-suc-le-zero l)
+look-on m n p q (suc k) l e ne = simp (ne-eqb _ _ ne, sub-one, e)
 
 pub look-none : (m : List ℕ) (n p k : ℕ) → k ≤ 0 → emptyFrom m n k p ≡ p
 unfolding emptyFrom pick

@@ -1,9 +1,20 @@
 // Which slot of a track each sector has.
 ghost use mathlib.Core.Path.{_≡_};
-ghost use Prim.Native.Nat.{_-_, _≤_, _<_};
+ghost use Prim.Native.Nat.{_+_, _-_, _%_, _≤_, _<_};
 ghost use mathlib.Core.List.{_++_};
 ghost use lib.ListN.{length, replicate};
 ghost use Rattle.interleave.specs.Layout.{emptyFrom, layoutOf};
+
+// A slot's number, past the last one counted round. A quotient would cost more than the rest of the loop.
+fn round(slot: usize, n: usize) -> usize
+    requires { ⌜ (0 < n) × (slot < n + n) ⌝ }
+    ensures { λ r. ⌜ r ≡ slot % n ⌝ }
+{
+    if slot < n {
+        return slot;
+    }
+    slot - n
+}
 
 // The first empty slot from `from` on, going upward and round. The entry n says that a slot is empty.
 fn next_empty(map: &[u8], n: usize, from: usize) -> usize
@@ -16,7 +27,7 @@ fn next_empty(map: &[u8], n: usize, from: usize) -> usize
         if map[slot] as usize == n {
             return slot;
         }
-        slot = (slot + 1) % n;
+        slot = round(slot + 1, n);
         left -= 1;
     }
     slot
@@ -33,7 +44,7 @@ pub fn layout(n: usize, f: usize) -> [u8; 32]
     let mut slot = 0;
     let mut s = 1;
     while s < n {
-        slot = next_empty(&map, n, (slot + f) % n);
+        slot = next_empty(&map, n, round(slot + f, n));
         map[slot] = s as u8;
         s += 1;
     }

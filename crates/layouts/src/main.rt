@@ -2,7 +2,6 @@
 use base::same_bytes;
 use interleave::layout;
 ghost use Prim.Native.Nat.{_≤_, _<_};
-ghost use lib.ListN.{length};
 
 const STDOUT: i32 = 1;
 

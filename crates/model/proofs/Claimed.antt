@@ -15,9 +15,8 @@ use Rattle.geometry.specs.declared.config.Setting.the-variants.{Valid}
 use Rattle.geometry.specs.Params.{Within, trackCount, trackOf, sectorOf}
 use Rattle.geometry.specs.Config.{settingOf}
 use Rattle.geometry.proofs.Settings.{setting-within}
-use Rattle.track.specs.declared.find.Sector.the-variants.{Slot}
 use Rattle.track.specs.Image.{trackBytes, slotData}
-use Rattle.track.specs.Find.{sectorFound}
+use Rattle.track.specs.Find.{Slot, sectorFound}
 use Rattle.model.specs.declared.verdict.Verdict.the-variants.{Faulty, Passed}
 use Rattle.model.specs.Calls.{Reply}
 use Rattle.model.specs.Checks.{judged}

@@ -11,9 +11,8 @@ use Rattle.geometry.specs.declared.params.Params.{Params}
 use Rattle.geometry.specs.Params.{Within, imageLength, trackCount, trackOf, sectorOf}
 use Rattle.interleave.proofs.Slots.{slotOf}
 use Rattle.track.specs.declared.id.State.the-variants.{Sound, Bad, Moved, Taken}
-use Rattle.track.specs.declared.find.Sector.the-variants.{Slot, Fault}
 use Rattle.track.specs.Image.{trackBytes, slotData}
-use Rattle.track.specs.Find.{sectorFound}
+use Rattle.track.specs.Find.{Slot, Fault, sectorFound}
 use Rattle.track.proofs.Formed.{Formed, found-sound, found-moved, found-bad, found-taken}
 use Rattle.model.specs.declared.verdict.Verdict.the-variants.{Faulty, Passed}
 use Rattle.model.specs.Checks.{judged}

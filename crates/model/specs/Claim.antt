@@ -12,9 +12,8 @@ use Rattle.geometry.specs.declared.params.Params.{Params}
 use Rattle.geometry.specs.declared.config.Setting.the-variants.{Valid, Invalid}
 use Rattle.geometry.specs.Params.{trackOf, sectorOf}
 use Rattle.geometry.specs.Config.{settingOf, labelSetting}
-use Rattle.track.specs.declared.find.Sector.the-variants.{Slot}
 use Rattle.track.specs.Image.{trackBytes, slotData}
-use Rattle.track.specs.Find.{sectorFound}
+use Rattle.track.specs.Find.{Slot, sectorFound}
 use Rattle.model.specs.declared.record.Controller.{Controller}
 use Rattle.model.specs.declared.record.Answer.{Answer}
 use Rattle.model.specs.declared.record.Outcome.{Outcome}

@@ -9,10 +9,8 @@ use Rattle.base.specs.Part.{splice}
 use Rattle.geometry.specs.declared.params.Track.{Track}
 use Rattle.geometry.specs.declared.params.Params.{Params}
 use Rattle.geometry.specs.Params.{trackOf, sectorOf}
-use Rattle.track.specs.declared.find.Sector.{Sector}
-use Rattle.track.specs.declared.find.Sector.the-variants.{Slot, Fault}
 use Rattle.track.specs.Image.{trackBytes, withTrack, slotData, withData}
-use Rattle.track.specs.Find.{sectorFound}
+use Rattle.track.specs.Find.{Sector, Slot, Fault, sectorFound}
 use Rattle.model.specs.declared.block.Block.{Block}
 use Rattle.model.specs.declared.record.Controller.{Controller}
 use Rattle.model.specs.Record.{Effect, good, failed, withBuffer}

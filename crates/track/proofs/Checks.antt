@@ -1,16 +1,20 @@
 -- Laws of the check of a track's ID bytes.
-use mathlib.Core.Path.{_≡_, sym, ap, _∙_}
-use mathlib.Core.Bool.{Bool, true, false, not}
+use mathlib.Core.Path.{_≡_, refl, sym, ap, _∙_}
+use mathlib.Core.Bool.{Bool, true, false, true≢false}
 use mathlib.Core.List.{List}
 use Prim.Native.Nat.{ℕ, _+_, _-_, _*_, _≤_, _<_}
 use native.Mathlib.Omega.{arith}
 use native.Mathlib.Nat.{zero-mul}
 use lib.ListN.{length, take, drop, getD}
+use lib.Dec.{eqb}
+use borrow.Author.Count.{below-more}
+use borrow.Author.Tests.{eq-eqb, ne-eqb}
 use Rattle.base.specs.Pick.{pick}
 use Rattle.base.specs.Part.{part}
-use Rattle.base.specs.Same.{sameBytes}
+use Rattle.base.specs.First.{everyBelow}
 use Rattle.base.proofs.Decide.{pick-true, pick-false}
-use Rattle.base.proofs.Firsts.{Sought, sought-none, sought-hit, sought-more, sought-all, every-miss, every-none}
+use Rattle.base.proofs.Parts.{length-part}
+use Rattle.base.proofs.Firsts.{every-true, every-at}
 use Rattle.geometry.specs.declared.params.Params.{Params}
 use Rattle.geometry.specs.declared.params.Track.{Track}
 use Rattle.geometry.specs.Params.{slotSize, trackSize, trackStart}
@@ -22,42 +26,79 @@ use Rattle.track.specs.Id.{idBytes, partnerOf, idFor}
 use Rattle.track.specs.Image.{trackBytes, slotId}
 use Rattle.track.specs.Format.{withSector}
 use Rattle.track.specs.Find.{whereOf}
-use Rattle.track.specs.Check.{idIs, idsAre, homeState, checkedOn, checkCode}
+use Rattle.track.specs.Check.{numberOf, idIs, idsAre, homeState, checkedOn, checkCode}
+use Rattle.track.proofs.Ids.{id-length}
 use Rattle.track.proofs.Images.{track-lent}
-use Rattle.track.proofs.Finds.{id-lent, place-more}
+use Rattle.track.proofs.Finds.{id-lent, slot-end, place-more}
+use Rattle.track.proofs.Numbers.{Low, low-part, same-number, Narrow, low-id, number-id, id-fits}
 
--- ---- the loop: the slots below k have the right ID, and slot k lies at `at`
-abbrev rightAt : (size : ℕ) → Id → (map bytes : List ℕ) → (k : ℕ) → Bool
-rightAt size id map bytes k = sameBytes (part (k * size) 8 bytes) (idBytes (withSector id (getD map k 0)))
+-- ---- what the comparison goes by: `first` is the number of the ID for sector 0
+pub record Known (p : Params) (id : Id) (map bytes : List ℕ) (size first : ℕ) : Type 0 where
+  pub width : size ≡ slotSize p
+  pub number : first ≡ numberOf (idBytes id)
+  pub long : length bytes ≡ trackSize p
+  pub many : length map ≡ p .sectors
+  pub zeroth : id .sector ≡ 0
+  pub narrow : Narrow id
+  pub low : Low bytes
+  pub sectors : (k : ℕ) → getD map k 0 < 256
 
-pub record Right (size : ℕ) (id : Id) (map bytes : List ℕ) (at k : ℕ) : Type 0 where
+-- slot k has the right number
+abbrev rightAt : (size first : ℕ) → (map bytes : List ℕ) → (k : ℕ) → Type 0
+rightAt size first map bytes k = numberOf (part (k * size) 8 bytes) ≡ first + getD map k 0 * 0x1000000
+
+module _ (p : Params) (id : Id) (map bytes : List ℕ) (size first : ℕ) (w : Known p id map bytes size first) where
+  -- slot k ends within the track
+  pub right-room : (at k : ℕ) → at ≡ k * size → k < length map → at + size ≤ length bytes
+  right-room at k e h = slot-end (slotSize p) (p .sectors) size at k (length bytes) (w .width) e (w .long) (omega (arith, w .many))
+
+  -- the number compared with is that of the ID that a format writes in slot k, which 64 bits hold
+  right-number : (k : ℕ) → first + getD map k 0 * 0x1000000 ≡ numberOf (idBytes (withSector id (getD map k 0)))
+  right-number k = ap (λ (n : ℕ). n + getD map k 0 * 0x1000000) (w .number) ∙ sym (number-id id (getD map k 0) (w .zeroth))
+
+  pub right-fits : (k : ℕ) → first + getD map k 0 * 0x1000000 < 0x10000000000000000
+  right-fits k = rw (right-number k) (id-fits id (getD map k 0) (w .narrow) (w .sectors k))
+
+  -- the ID bytes are right exactly where the number is
+  id-number : (k : ℕ) → k < length map → idIs p id map bytes k ≡ eqb (numberOf (part (k * size) 8 bytes)) (first + getD map k 0 * 0x1000000)
+  unfolding idIs slotId
+  id-number k h =
+      let s = getD map k 0 in
+      let long : length (part (k * size) 8 bytes) ≡ length (idBytes (withSector id s)) =
+      length-part (k * size) 8 bytes (omega (arith, w .width, right-room (k * size) k refl h)) ∙ sym (id-length (withSector id s)) in
+      rw (← w .width, right-number k) (same-number (part (k * size) 8 bytes) (idBytes (withSector id s)) long (low-part (k * size) 8 (w .low)) (low-id id s (w .narrow) (w .sectors k)))
+
+-- where one fails, not every one passes
+every-off : (test : ℕ → Bool) (n i : ℕ) → i < n → test i ≡ false → everyBelow test n ≡ false
+every-off test n i h e = by _ refl
+  where
+    by : (all : Bool) → everyBelow test n ≡ all → everyBelow test n ≡ false
+    by true q = absurd (true≢false (sym (every-at test n q i h) ∙ e))
+    by false q = q
+
+-- ---- the loop: the slots below k have the right number, and slot k lies at `at`
+pub record Right (size first : ℕ) (map bytes : List ℕ) (at k : ℕ) : Type 0 where
   pub place : at ≡ k * size
-  pub sought : Sought (λ i. not (rightAt size id map bytes i)) (length map) k
+  pub all : (i : ℕ) → i < k → rightAt size first map bytes i
 
-module _ (size : ℕ) (id : Id) (map bytes : List ℕ) where
-  pub right-none : Right size id map bytes 0 0
-  right-none = record { place = sym (zero-mul size); sought = sought-none _ _ }
+pub right-none : (size first : ℕ) (map bytes : List ℕ) → Right size first map bytes 0 0
+right-none size first map bytes = record { place = sym (zero-mul size); all = λ i h. absurd (omega arith) }
 
-  module _ (at k : ℕ) (w : Right size id map bytes at k) (other : Id) (is : Bool) (eo : other ≡ withSector id (getD map k 0))
-      (e : is ≡ sameBytes (take (at + 8 - at) (drop at bytes)) (idBytes other)) (h : k < length map) where
-    same : not (rightAt size id map bytes k) ≡ not is
-    same = rw (← id-lent size at k bytes (w .place), ← eo) (ap not (sym e))
+module _ (size first : ℕ) (map bytes : List ℕ) (at k : ℕ) (r : Right size first map bytes at k) (n : ℕ) (e : n ≡ numberOf (take (at + 8 - at) (drop at bytes))) where
+  here : n ≡ numberOf (part (k * size) 8 bytes)
+  here = e ∙ ap numberOf (id-lent size at k bytes (r .place))
 
-    pub right-more : not is ≡ false → Right size id map bytes (at + size) (k + 1)
-    right-more r = record { place = place-more size at k (w .place); sought = sought-more _ _ k (w .sought) h (same ∙ r) }
+  pub right-more : n ≡ first + getD map k 0 * 0x1000000 → Right size first map bytes (at + size) (k + 1)
+  right-more q = record { place = place-more size at k (r .place); all = below-more _ k (r .all) (sym here ∙ q) }
 
-    pub right-miss : (p : Params) → size ≡ slotSize p → not is ≡ true → false ≡ idsAre p id map bytes
-    unfolding idsAre idIs slotId
-    right-miss p es r = sym (every-miss (rightAt (slotSize p) id map bytes) _ k (rw es at (sought-hit _ _ k (w .sought) h (same ∙ r))))
+  pub right-miss : (p : Params) (id : Id) → Known p id map bytes size first → k < length map → (n ≡ first + getD map k 0 * 0x1000000 → ⊥) → false ≡ idsAre p id map bytes
+  unfolding idsAre
+  right-miss p id w h ne = sym (every-off (idIs p id map bytes) (length map) k h (id-number p id map bytes size first w k h ∙ ne-eqb _ _ (λ q. ne (here ∙ q))))
 
-  pub right-all : (p : Params) (at k : ℕ) → Right size id map bytes at k → size ≡ slotSize p → length map ≤ k → true ≡ idsAre p id map bytes
-  unfolding idsAre idIs slotId
-  right-all p at k w es h = sym (every-none (rightAt (slotSize p) id map bytes) _ (rw es at (sought-all _ _ k (w .sought) h)))
-
--- another sector leaves the partner
-pub sector-partner : (id other : Id) (s m : ℕ) → id .partner .0 < m → other ≡ withSector id s → other .partner .0 < m
-unfolding withSector
-sector-partner id other s m h e = rw e h
+pub right-all : (p : Params) (id : Id) (map bytes : List ℕ) (size first at k : ℕ) → Known p id map bytes size first → Right size first map bytes at k → length map ≤ k
+    → true ≡ idsAre p id map bytes
+unfolding idsAre
+right-all p id map bytes size first at k w r h = sym (every-true (idIs p id map bytes) (length map) (λ i l. id-number p id map bytes size first w i l ∙ eq-eqb _ _ (r .all i (omega arith))))
 
 -- ---- the check, by where t's sectors are
 pick-partner : (b : Bool) (x y : State) (m : ℕ) → partnerOf x .0 < m → partnerOf y .0 < m → partnerOf (pick b x y) .0 < m
@@ -68,6 +109,11 @@ pick-partner false x y m hx hy = hy
 pub home-partner : (p : Params) (t u : Track) (state : State) (id : Id) (m : ℕ) → t .0 < m → state ≡ homeState t u → id ≡ idFor p u state 0 → id .partner .0 < m
 unfolding homeState idFor partnerOf
 home-partner p t u state id m h es ei = rw (ei, es) (pick-partner _ _ _ m (omega arith) h)
+
+-- the ID is for sector 0
+pub home-sector : (p : Params) (u : Track) (state : State) (id : Id) → id ≡ idFor p u state 0 → id .sector ≡ 0
+unfolding idFor
+home-sector p u state id e = ap (λ (i : Id). i .sector) e
 
 module _ (p : Params) (t : Track) (map image : List ℕ) (w : Where) (ew : w ≡ whereOf p t image) where
   pub check-off : (code : ℕ) → w ≡ Off code → code ≡ checkCode p t map image

@@ -1,33 +1,26 @@
--- Laws of finding a sector: where the search goes on, the loop over a track's slots, and what is found.
+-- Laws of finding a sector: where the search goes on, and where slots lie.
 use mathlib.Core.Path.{_≡_, refl, sym, ap, _∙_}
 use mathlib.Core.Bool.{Bool, true, false, not, _&&_, false≢true}
-use mathlib.Core.Option.{Option, none, some}
 use mathlib.Core.List.{List}
 use Prim.Native.Nat.{ℕ, _+_, _-_, _*_, _≤_, _<_}
 use native.Mathlib.Omega.{arith}
-use native.Mathlib.Nat.{zero-mul, suc-mul}
+use native.Mathlib.Nat.{suc-mul}
 use native.Mathlib.Numerals.{add-one}
 use lib.ListN.{take, drop}
 use lib.Dec.{eqb}
 use borrow.Author.Tests.{lt-ltb, le-ltb, ltb-true, eq-eqb, ne-eqb, not-true, not-false}
 use Rattle.base.specs.Pick.{pick}
 use Rattle.base.specs.Part.{part}
-use Rattle.base.specs.First.{firstBelow}
 use Rattle.base.proofs.Parts.{part-lent, cell-in}
-use Rattle.base.proofs.Firsts.{Sought, sought-none, sought-more, sought-all}
 use Rattle.geometry.specs.declared.params.Params.{Params}
 use Rattle.geometry.specs.declared.params.Track.{Track}
-use Rattle.geometry.specs.Params.{trackCount, slotSize, trackSize, trackStart}
+use Rattle.geometry.specs.Params.{trackCount}
 use Rattle.track.specs.declared.id.Id.{Id}
 use Rattle.track.specs.declared.find.Where.{Where}
 use Rattle.track.specs.declared.find.Where.the-variants.{On, Off}
-use Rattle.track.specs.declared.find.Found.{Found}
-use Rattle.track.specs.declared.find.Found.the-variants.{At, Nothing}
-use Rattle.track.specs.declared.find.Sector.the-variants.{Slot, Fault}
-use Rattle.track.specs.Id.{idIn, ownId}
-use Rattle.track.specs.Image.{trackBytes, slotId, firstId}
-use Rattle.track.specs.Find.{takenBy, whereBy, whereOf, holds, slotUsed, foundOf, sectorIn, sectorFrom, sectorFound, MayBeFound, MayBeSector}
-use Rattle.track.proofs.Images.{track-lent}
+use Rattle.track.specs.Id.{ownId}
+use Rattle.track.specs.Image.{firstId}
+use Rattle.track.specs.Find.{takenBy, whereBy, whereOf}
 
 -- ---- whether a track is taken by another, test by test
 module _ (p : Params) (t u : Track) (id : Id) where
@@ -116,64 +109,3 @@ slot-end w n size at k len es e l h = let z : n * size ≡ n * w = ap (λ (i : �
 
 pub place-more : (size at k : ℕ) → at ≡ k * size → at + size ≡ (k + 1) * size
 place-more size at k e = rw (add-one, suc-mul) (omega arith)
-
--- ---- the loop: the slots below k do not hold s, and slot k lies at `at`
-abbrev holdsAt : (size s : ℕ) → (bytes : List ℕ) → (k : ℕ) → Bool
-holdsAt size s bytes k = eqb (idIn (part (k * size) 8 bytes) .mark) 0xA1 && eqb (idIn (part (k * size) 8 bytes) .sector) s
-
-pub record Passed (size s : ℕ) (bytes : List ℕ) (n at k : ℕ) : Type 0 where
-  pub place : at ≡ k * size
-  pub sought : Sought (holdsAt size s bytes) n k
-
-pub passed-none : (size s : ℕ) (bytes : List ℕ) (n : ℕ) → Passed size s bytes n 0 0
-passed-none size s bytes n = record { place = sym (zero-mul size); sought = sought-none _ _ }
-
-module _ (size s : ℕ) (bytes : List ℕ) (at k : ℕ) (has : Bool)
-    (e : has ≡ (eqb (idIn (take (at + 8 - at) (drop at bytes)) .mark) 0xA1 && eqb (idIn (take (at + 8 - at) (drop at bytes)) .sector) s)) where
-  held : at ≡ k * size → holdsAt size s bytes k ≡ has
-  held place = rw (← id-lent size at k bytes place) (sym e)
-
-  pub passed-more : (n : ℕ) → Passed size s bytes n at k → k < n → has ≡ false → Passed size s bytes n (at + size) (k + 1)
-  passed-more n w h no-match = record { place = place-more size at k (w .place); sought = sought-more _ _ k (w .sought) h (held (w .place) ∙ no-match) }
-
-  pub passed-hit : (p : Params) → size ≡ slotSize p → Passed size s bytes (p .sectors) at k → k < p .sectors → has ≡ true → MayBeFound p s bytes (At k)
-  unfolding foundOf slotUsed holds slotId pick
-  passed-hit p es w h match-it =
-      let z : holdsAt (slotSize p) s bytes k ≡ true = rw es at (held (w .place) ∙ match-it) in
-      (k, simp (lt-ltb k (p .sectors) h, z))
-
--- a choice past the last slot leaves the first that holds s, which is none
-pub passed-all : (p : Params) (size s : ℕ) (bytes : List ℕ) (at k : ℕ) → size ≡ slotSize p → Passed size s bytes (p .sectors) at k → p .sectors ≤ k → MayBeFound p s bytes Nothing
-unfolding foundOf slotUsed holds slotId pick
-passed-all p size s bytes at k es w h =
-    let z : firstBelow (holdsAt (slotSize p) s bytes) (p .sectors) ≡ none = rw es at (sought-all _ _ k (w .sought) h) in
-    (p .sectors, simp (le-ltb (p .sectors) (p .sectors) (omega arith), z))
-
--- ---- what is found
-found-at : (u : Track) (k : ℕ) (o : Option ℕ) → foundOf o ≡ At k → Slot u k ≡ sectorIn u o
-unfolding foundOf sectorIn
-found-at u k none e = absurd (let z : _≡_ {A = ℕ} 0 1 = cc in omega arith)
-found-at u k (some j) e = let z : k ≡ j = cc in rw z
-
-found-nothing : (u : Track) (o : Option ℕ) → foundOf o ≡ Nothing → Fault 0x14 ≡ sectorIn u o
-unfolding foundOf sectorIn
-found-nothing u none e = refl
-found-nothing u (some j) e = absurd (let z : _≡_ {A = ℕ} 0 1 = cc in omega arith)
-
-module _ (p : Params) (t : Track) (s : ℕ) (image : List ℕ) (w : Where) (ew : w ≡ whereOf p t image) where
-  pub sector-off : (code : ℕ) → w ≡ Off code → MayBeSector p t s image (Fault code)
-  unfolding sectorFound sectorFrom
-  sector-off code e = (0, rw (sym ew ∙ e))
-
-  module _ (u : Track) (e : w ≡ On u) (start end : ℕ) (es : start ≡ trackStart p u) (ee : end ≡ trackStart p u + trackSize p) (found : Found)
-      (f : MayBeFound p s (take (end - start) (drop start image)) found) where
-    there : found ≡ foundOf (slotUsed (f .0) p s (trackBytes p u image))
-    there = rw (track-lent p u image start end es ee) at (f .1)
-
-    pub sector-at : (k : ℕ) → found ≡ At k → MayBeSector p t s image (Slot u k)
-    unfolding sectorFound sectorFrom
-    sector-at k ek = (f .0, rw (sym ew ∙ e) (found-at u k _ (sym there ∙ ek)))
-
-    pub sector-nothing : found ≡ Nothing → MayBeSector p t s image (Fault 0x14)
-    unfolding sectorFound sectorFrom
-    sector-nothing en = (f .0, rw (sym ew ∙ e) (found-nothing u _ (sym there ∙ en)))

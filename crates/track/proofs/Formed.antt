@@ -25,11 +25,10 @@ use Rattle.track.specs.declared.id.Id.{Id}
 use Rattle.track.specs.declared.id.State.{State}
 use Rattle.track.specs.declared.id.State.the-variants.{Sound, Bad, Moved, Taken}
 use Rattle.track.specs.declared.find.Where.the-variants.{On, Off}
-use Rattle.track.specs.declared.find.Sector.the-variants.{Slot, Fault}
 use Rattle.track.specs.Id.{flagOf, partnerOf, idBytes, idIn, idFor}
 use Rattle.track.specs.Image.{trackBytes, slotId, slotData, firstId}
 use Rattle.track.specs.Format.{withSector, formatted}
-use Rattle.track.specs.Find.{takenBy, whereBy, whereOf, holds, slotUsed, sectorIn, sectorFrom, sectorFound}
+use Rattle.track.specs.Find.{takenBy, whereBy, whereOf, holds, slotUsed, Slot, Fault, sectorIn, sectorFrom, sectorFound}
 use Rattle.track.specs.Check.{idIs, idsAre, homeState, checkedOn, checkCode}
 use Rattle.track.specs.Pair.{stateBy, stateOf}
 use Rattle.track.proofs.Ids.{id-back, own-for, sector-for}

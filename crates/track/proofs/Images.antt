@@ -8,7 +8,7 @@ use native.Mathlib.Nat.{mul-le-mul-right, zero-mul}
 use lib.ListN.{length, take, drop}
 use borrow.Rule.Slice.PartMut.{putMid}
 use Rattle.base.specs.Part.{part, splice}
-use Rattle.base.proofs.Parts.{length-part, length-splice, part-same, part-before, part-after, part-part, other-cell, cell-in, part-lent, splice-lent, splice-splice}
+use Rattle.base.proofs.Parts.{length-part, length-splice, part-same, part-before, part-after, part-part, other-cell, cell-in, part-lent, splice-lent}
 use Rattle.geometry.specs.declared.params.Params.{Params}
 use Rattle.geometry.specs.declared.params.Track.{Track}
 use Rattle.geometry.specs.Params.{trackCount, slotSize, trackSize, imageLength, trackStart}
@@ -108,26 +108,16 @@ first-lent p t image start n es =
     part-lent start (start + 8) 8 image refl ∙ ap (λ (i : ℕ). part i 8 image) (let e : start ≡ trackStart p t + 0 * slotSize p = omega (arith, z) in e)
     ∙ sym (part-part (trackStart p t) (trackSize p) (0 * slotSize p) 8 image room)
 
--- slot k in the track that starts at `start`; `size` is a slot's
-module _ (p : Params) (t : Track) (k start size : ℕ) (h : k < p .sectors) (es : start ≡ trackStart p t) (ez : size ≡ slotSize p) where
-  pub slot-end : start + k * size + size ≤ trackStart p t + trackSize p
-  slot-end = rw ez (omega (arith, es, cell-in (slotSize p) k (p .sectors) h))
-
-  pub slot-lent : (image : List ℕ) → take (start + k * size + size - (start + k * size)) (drop (start + k * size) image) ≡ slotBytes p k (trackBytes p t image)
-  unfolding trackBytes slotBytes
-  slot-lent image =
-      rw (es, ez)
-      (part-lent (trackStart p t + k * slotSize p) (trackStart p t + k * slotSize p + slotSize p) (slotSize p) image refl
-      ∙ sym (part-part (trackStart p t) (trackSize p) (k * slotSize p) (slotSize p) image (cell-in (slotSize p) k (p .sectors) h)))
+-- slot k, lent of a track; `size` is a slot's
+module _ (p : Params) (k size : ℕ) (ez : size ≡ slotSize p) where
+  pub slot-lent : (bytes : List ℕ) → take (k * size + size - k * size) (drop (k * size) bytes) ≡ slotBytes p k bytes
+  unfolding slotBytes
+  slot-lent bytes = rw ez (part-lent (k * slotSize p) (k * slotSize p + slotSize p) (slotSize p) bytes refl)
 
   -- its data, lent and replaced
-  pub data-lent : (sector lent image : List ℕ) → t .0 < trackCount p → imageLength p ≤ length image → length sector ≡ p .size → lent ≡ sector
-      → putMid (start + k * size + 8) (start + k * size + 8 + p .size - (start + k * size + 8)) image lent ≡ withTrack p t (withData p k sector (trackBytes p t image)) image
-  unfolding trackBytes withTrack withData
-  data-lent sector lent image ht fits ls e =
-      let at : ℕ = trackStart p t + k * slotSize p + 8 in
-      let z : at ≡ trackStart p t + (k * slotSize p + 8) = omega arith in
-      rw (es, ez, e)
-      (splice-lent at (at + p .size) image sector (ap (λ (n : ℕ). at + n) ls)
-      ∙ ap (λ (i : ℕ). splice i sector image) z
-      ∙ sym (splice-splice (trackStart p t) (trackSize p) (k * slotSize p + 8) sector image (omega (arith, ls, cell-in (slotSize p) k (p .sectors) h)) (track-room p t (length image) ht fits)))
+  pub data-lent : (sector lent bytes : List ℕ) → length sector ≡ p .size → lent ≡ sector
+      → putMid (k * size + 8) (k * size + 8 + p .size - (k * size + 8)) bytes lent ≡ withData p k sector bytes
+  unfolding withData
+  data-lent sector lent bytes ls e =
+      let at : ℕ = k * slotSize p + 8 in
+      rw (ez, e) (splice-lent at (at + p .size) bytes sector (ap (λ (n : ℕ). at + n) ls))

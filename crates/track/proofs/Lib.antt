@@ -3,6 +3,9 @@ pub mod Images
 pub mod Formats
 pub mod Sounds
 pub mod Finds
+pub mod Notes
+pub mod Runs
+pub mod Numbers
 pub mod Checks
 pub mod Pairs
 pub mod Choices

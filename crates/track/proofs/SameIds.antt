@@ -3,14 +3,15 @@ use mathlib.Core.Path.{_≡_, refl, sym, ap, ap₂, _∙_}
 use mathlib.Core.Bool.{Bool, true, false, _&&_}
 use mathlib.Core.Option.{Option, some}
 use mathlib.Core.List.{List}
-use Prim.Native.Nat.{ℕ, zero, suc, _+_, _≤_, _<_}
+use Prim.Native.Nat.{ℕ, _≤_, _<_}
 use native.Mathlib.Omega.{arith}
 use native.Mathlib.Decide.{decLt, ℕ-discrete}
 use lib.ListN.{length}
 use lib.Dec.{ltb}
 use borrow.Author.Tests.{ltb-true}
 use Rattle.base.specs.Pick.{pick}
-use Rattle.base.specs.First.{firstFrom, firstBelow}
+use Rattle.base.specs.First.{firstBelow}
+use Rattle.base.proofs.Firsts.{first-same}
 use Rattle.geometry.specs.declared.params.Params.{Params}
 use Rattle.geometry.specs.declared.params.Track.{Track}
 use Rattle.geometry.specs.Params.{trackCount, trackSize, imageLength}
@@ -26,13 +27,6 @@ use Rattle.track.proofs.Finds.{taken-past, where-in}
 -- two images with the same ID in every slot of every track
 pub record SameIds (p : Params) (a b : List ℕ) : Type 0 where
   pub ids : (t : Track) (k : ℕ) → t .0 < trackCount p → k < p .sectors → slotId p k (trackBytes p t a) ≡ slotId p k (trackBytes p t b)
-
--- a test that agrees below n finds the same first
-first-same : (x y : ℕ → Bool) (k c : ℕ) → ((i : ℕ) → k ≤ i → i < k + c → x i ≡ y i) → firstFrom x k c ≡ firstFrom y k c
-unfolding firstFrom
-first-same x y k zero h = refl
-first-same x y k (suc c) h =
-    rw (h k (omega arith) (omega arith), first-same x y (suc k) c (λ i l m. h i (omega arith) (omega arith)))
 
 module _ (p : Params) (a b : List ℕ) (some-sector : 0 < p .sectors) (same : SameIds p a b) where
   first-id-same : (t : Track) → t .0 < trackCount p → firstId p t a ≡ firstId p t b
@@ -63,7 +57,7 @@ module _ (p : Params) (a b : List ℕ) (some-sector : 0 < p .sectors) (same : Sa
   used-same choice s u h =
       ap₂ {C = Option ℕ} (λ (x : Bool) (o : Option ℕ). pick x (some choice) o)
       (guarded (ltb choice (p .sectors)) refl)
-      (first-same (holds p s (trackBytes p u a)) (holds p s (trackBytes p u b)) 0 (p .sectors) (λ i l m. holds-same s u i h (omega arith)))
+      (first-same (holds p s (trackBytes p u a)) (holds p s (trackBytes p u b)) 0 (p .sectors) (λ i m. holds-same s u i h (omega arith)))
     where
       guarded : (x : Bool) → ltb choice (p .sectors) ≡ x → (x && holds p s (trackBytes p u a) choice) ≡ (x && holds p s (trackBytes p u b) choice)
       guarded true e = holds-same s u choice h (ltb-true _ _ e)

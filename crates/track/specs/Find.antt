@@ -1,6 +1,5 @@
 -- Document 01, 'Tracks and slots': finding sector s of track t, in any image.
 use Prim.Native.Nat.{ℕ}
-use mathlib.Core.Path.{_≡_}
 use mathlib.Core.Bool.{Bool, not, _&&_}
 use mathlib.Core.Option.{Option, none, some}
 use mathlib.Core.List.{List}
@@ -13,10 +12,6 @@ use Rattle.geometry.specs.Params.{trackCount}
 use Rattle.track.specs.declared.id.Id.{Id}
 use Rattle.track.specs.declared.find.Where.{Where}
 use Rattle.track.specs.declared.find.Where.the-variants.{On, Off}
-use Rattle.track.specs.declared.find.Found.{Found}
-use Rattle.track.specs.declared.find.Found.the-variants.{At, Nothing}
-use Rattle.track.specs.declared.find.Sector.{Sector}
-use Rattle.track.specs.declared.find.Sector.the-variants.{Slot, Fault}
 use Rattle.track.specs.Id.{idIn, ownId}
 use Rattle.track.specs.Image.{trackBytes, slotId, firstId}
 
@@ -52,9 +47,10 @@ holds p s bytes k = eqb (idIn (slotId p k bytes) .mark) 0xA1 && eqb (idIn (slotI
 unfoldable pub slotUsed : (choice : ℕ) → Params → (s : ℕ) → (bytes : List ℕ) → Option ℕ
 slotUsed choice p s bytes = pick (ltb choice (p .sectors) && holds p s bytes choice) (some choice) (firstBelow (holds p s bytes) (p .sectors))
 
-unfoldable pub foundOf : Option ℕ → Found
-foundOf none = Nothing
-foundOf (some k) = At k
+-- The track and the slot that a sector is in, or an error's code.
+pub data Sector : Type 0 where
+  Slot : Track → ℕ → Sector
+  Fault : ℕ → Sector
 
 -- No slot holds s: 14h.
 unfoldable pub sectorIn : Track → Option ℕ → Sector
@@ -68,10 +64,3 @@ sectorFrom choice p s image (On u) = sectorIn u (slotUsed choice p s (trackBytes
 -- Finding sector s of track t: the track and the slot that it is in, or the error.
 unfoldable pub sectorFound : (choice : ℕ) → Params → Track → (s : ℕ) → List ℕ → Sector
 sectorFound choice p t s image = sectorFrom choice p s image (whereOf p t image)
-
--- what a search in a track's stretch, and finding, may answer
-abbrev pub MayBeFound : Params → (s : ℕ) → (bytes : List ℕ) → Found → Type 0
-MayBeFound p s bytes r = (choice : ℕ) × (r ≡ foundOf (slotUsed choice p s bytes))
-
-abbrev pub MayBeSector : Params → Track → (s : ℕ) → List ℕ → Sector → Type 0
-MayBeSector p t s image r = (choice : ℕ) × (r ≡ sectorFound choice p t s image)

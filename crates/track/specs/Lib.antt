@@ -2,5 +2,6 @@ pub mod Id
 pub mod Image
 pub mod Format
 pub mod Find
+pub mod Run
 pub mod Check
 pub mod Pair

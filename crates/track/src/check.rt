@@ -1,44 +1,58 @@
 // Check Track's comparison of a track's ID bytes.
 use crate::find::Where;
 use crate::find::where_is;
-use crate::format::with_sector;
 use crate::id::Id;
 use crate::id::State;
 use crate::id::id_for;
 use crate::id::write_id;
-use base::same_bytes;
 use geometry::params::Params;
 use geometry::params::Track;
 ghost use mathlib.Core.Path.{_≡_};
-ghost use Prim.Native.Nat.{_≤_, _<_};
-ghost use lib.ListN.{length, take};
-ghost use Rattle.base.specs.Same.{sameBytes};
+ghost use Prim.Native.Nat.{_<_};
+ghost use lib.ListN.{length};
 ghost use Rattle.geometry.specs.Params.{Within, trackCount, trackSize};
 ghost use Rattle.track.specs.Id.{idBytes};
 ghost use Rattle.track.specs.Image.{Fits};
-ghost use Rattle.track.specs.Check.{idsAre, homeState, checkCode};
+ghost use Rattle.track.specs.Check.{numberOf, idsAre, homeState, checkCode};
 
-// Whether 8 ID bytes are those of this ID.
-fn is_id(bytes: &[u8], id: Id) -> bool
-    requires { ⌜ (length (now bytes) ≡ 8) × (id .partner .0 < 65536) ⌝ }
-    ensures { λ r. ⌜ r ≡ sameBytes (now (bytes .entry)) (idBytes id) ⌝ }
+// Eight bytes as a number, high byte first. LLVM makes it one load.
+fn number_of(bytes: &[u8]) -> u64
+    requires { ⌜ length (now bytes) ≡ 8 ⌝ }
+    ensures { λ r. ⌜ r ≡ numberOf (now (bytes .entry)) ⌝ }
 {
-    let mut right = [0u8; 8];
-    write_id(&mut right, id);
-    same_bytes(bytes, &right)
+    let two = (bytes[0] as u64) * 256 + (bytes[1] as u64);
+    let three = two * 256 + (bytes[2] as u64);
+    let four = three * 256 + (bytes[3] as u64);
+    let five = four * 256 + (bytes[4] as u64);
+    let six = five * 256 + (bytes[5] as u64);
+    let seven = six * 256 + (bytes[6] as u64);
+    seven * 256 + (bytes[7] as u64)
+}
+
+// The number of the 8 ID bytes of this ID.
+fn id_number(id: Id) -> u64
+    requires { ⌜ id .partner .0 < 65536 ⌝ }
+    ensures { λ r. ⌜ r ≡ numberOf (idBytes id) ⌝ }
+{
+    let mut bytes = [0u8; 8];
+    write_id(&mut bytes, id);
+    number_of(&bytes)
 }
 
 // Whether every slot of a track's stretch has the ID that a format writes there.
 fn ids_are(track: &[u8], p: Params, id: Id, map: &[u8]) -> bool
-    requires { ⌜ Within p × (length (now track) ≡ trackSize p) × (length (now map) ≡ p .sectors) × (id .partner .0 < 65536) ⌝ }
+    requires { ⌜ Within p × (length (now track) ≡ trackSize p) × (length (now map) ≡ p .sectors) × (id .partner .0 < 65536) × (id .sector ≡ 0) ⌝ }
     ensures { λ r. ⌜ r ≡ idsAre p id (now (map .entry)) (now (track .entry)) ⌝ }
 {
     let size = p.slot_size();
+    let first = id_number(id);
     let mut at = 0;
     let mut k = 0;
     while k < map.len() {
         let end = at + 8;
-        if !is_id(&track[at..end], with_sector(id, map[k])) {
+        // the sector is byte 4
+        let right = first + (map[k] as u64) * 0x1000000;
+        if number_of(&track[at..end]) != right {
             return false;
         }
         at += size;

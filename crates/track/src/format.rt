@@ -2,7 +2,6 @@
 use crate::id::Id;
 use crate::id::State;
 use crate::id::id_for;
-use crate::id::partner_of;
 use crate::id::write_id;
 use base::copy_bytes;
 use geometry::params::Params;

@@ -4,4 +4,5 @@ pub mod find;
 pub mod format;
 pub mod id;
 pub mod pair;
+pub mod run;
 pub mod sector;

@@ -1,8 +1,9 @@
 use borrow.Author.Needs.{needs}
 use native.Mathlib.Omega.{arith}
 use Prim.Native.Nat.{_-_}
-use native.Mathlib.Nat.{mod-lt}
-use Rattle.interleave.proofs.Layouts.{Filled, filled-first, filled-next, filled-last}
+use mathlib.Core.Path.{ap, _∙_}
+use Rattle.interleave.specs.Layout.{emptyFrom}
+use Rattle.interleave.proofs.Layouts.{round-lt, Filled, filled-first, filled-next, filled-last}
 use Rattle.interleave.proofs.layout.Statement.{statement}
 use Rattle.interleave.proofs.layout.Tie as tie
 
@@ -24,14 +25,14 @@ loop-holds c = filled-first _ _ (omega arith) (omega arith)
 slice-aggregate-next-empty : tie.Need-slice-aggregate-next-empty Inv-loop μ-loop
 slice-aggregate-next-empty c = omega arith
 
-add-next-empty : tie.Need-add-next-empty Inv-loop μ-loop
-add-next-empty c = search needs
+add-round : tie.Need-add-round Inv-loop μ-loop
+add-round c = search needs
 
-rem-next-empty : tie.Need-rem-next-empty Inv-loop μ-loop
-rem-next-empty c = search needs
+round-requires : tie.Need-round-requires Inv-loop μ-loop
+round-requires c κs = search needs
 
 next-empty-requires : tie.Need-next-empty-requires Inv-loop μ-loop
-next-empty-requires c κs = (omega arith, mod-lt _ (omega arith), omega arith)
+next-empty-requires c κs = (omega arith, round-lt _ _ _ (omega arith) (c .round .ensures), omega arith)
 
 cast-map : tie.Need-cast-map Inv-loop μ-loop
 cast-map c = search needs
@@ -47,8 +48,8 @@ loop-less c = search needs
 
 loop-again : tie.Need-loop-again Inv-loop μ-loop
 loop-again c =
-    let l = c .before .before .before .loop in
-    filled-next _ _ (l .s) (l .map) (l .slot) _ (omega arith) (omega arith) (l .inv) (c .next-empty .ensures .0)
+    let l = c .before .before .before .before .loop in
+    filled-next _ _ (l .s) (l .map) (l .slot) _ (omega arith) (omega arith) (l .inv) (c .next-empty .ensures .0 ∙ ap (emptyFrom _ _ _) (c .before .round .ensures))
 
 returns : tie.Need-returns Inv-loop μ-loop
 returns c = filled-last _ _ _ _ _ (c .loop-test .left) (c .before .loop .inv)
@@ -63,8 +64,8 @@ layout-spec =
     array-write-map
     loop-holds
     slice-aggregate-next-empty
-    add-next-empty
-    rem-next-empty
+    add-round
+    round-requires
     next-empty-requires
     cast-map
     array-write-map-2

@@ -1,10 +1,9 @@
 use borrow.Author.Needs.{needs}
 use native.Mathlib.Omega.{arith}
-use Prim.Native.Nat.{_≤_, _<_, _+_}
+use Prim.Native.Nat.{_≤_, _<_}
 use mathlib.Core.Path.{_≡_, sym, _∙_}
-use native.Mathlib.Nat.{mod-lt}
 use Rattle.interleave.specs.Layout.{emptyFrom}
-use Rattle.interleave.proofs.Layouts.{look-here, look-on, look-none}
+use Rattle.interleave.proofs.Layouts.{round-lt, look-here, look-on, look-none}
 use Rattle.interleave.proofs.next_empty.Statement.{statement}
 use Rattle.interleave.proofs.next_empty.Tie as tie
 
@@ -21,18 +20,18 @@ shared-slice-read-if1 : tie.Need-shared-slice-read-if1 Inv-loop μ-loop
 shared-slice-read-if1 c = search needs
 
 cast-if1 : tie.Need-cast-if1 Inv-loop μ-loop
-cast-if1 c = omega (arith, c .shared-slice-known .given (c .before .before .loop .slot))
+cast-if1 c = omega (arith, c .shared-slice-known2 .given (c .before .before .loop .slot))
 
 returns : tie.Need-returns Inv-loop μ-loop
 returns c =
     let l = c .before .before .before .loop in
     (sym (look-here _ _ (l .slot) (l .left) (c .before .before .loop-test .taken) (c .if1 .taken)) ∙ l .inv .2, l .inv .0)
 
-add-slot : tie.Need-add-slot Inv-loop μ-loop
-add-slot c = search needs
+add-round : tie.Need-add-round Inv-loop μ-loop
+add-round c = search needs
 
-rem-slot : tie.Need-rem-slot Inv-loop μ-loop
-rem-slot c = search needs
+round-requires : tie.Need-round-requires Inv-loop μ-loop
+round-requires c κs = search needs
 
 sub-left : tie.Need-sub-left Inv-loop μ-loop
 sub-left c = search needs
@@ -42,10 +41,10 @@ loop-less c = search needs
 
 loop-again : tie.Need-loop-again Inv-loop μ-loop
 loop-again c =
-    let l = c .before .before .before .loop in (
-      mod-lt (l .slot + 1) (omega arith),
+    let l = c .before .before .before .before .loop in (
+      round-lt _ _ _ (omega arith) (c .round .ensures),
       omega arith,
-      sym (look-on _ _ (l .slot) (l .left) (c .before .before .loop-test .taken) (c .if1 .left)) ∙ l .inv .2,
+      sym (look-on _ _ (l .slot) _ (l .left) (c .before .before .before .loop-test .taken) (c .round .ensures) (c .before .if1 .left)) ∙ l .inv .2,
     )
 
 returns-2 : tie.Need-returns-2 Inv-loop μ-loop
@@ -63,8 +62,8 @@ next-empty-spec =
     shared-slice-read-if1
     cast-if1
     returns
-    add-slot
-    rem-slot
+    add-round
+    round-requires
     sub-left
     loop-less
     loop-again

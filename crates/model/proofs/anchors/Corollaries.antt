@@ -15,7 +15,7 @@ use Rattle.geometry.specs.declared.config.Setting.{Setting}
 use Rattle.geometry.specs.declared.config.Setting.the-variants.{Valid, Invalid}
 use Rattle.geometry.specs.Params.{Within, imageLength, trackCount}
 use Rattle.geometry.specs.Config.{settingBy, settingOf, labelSetting}
-use Rattle.track.specs.declared.find.Sector.the-variants.{Slot}
+use Rattle.track.specs.Find.{Slot}
 use Rattle.track.specs.Image.{trackBytes, slotId, slotData}
 use Rattle.model.specs.declared.block.Block.{Block}
 use Rattle.model.specs.declared.table.Command.{Command}

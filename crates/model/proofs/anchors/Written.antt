@@ -14,10 +14,8 @@ use Rattle.geometry.specs.declared.params.Params.{Params}
 use Rattle.geometry.specs.Params.{Within, trackCount, trackSize, imageLength, trackOf}
 use Rattle.track.specs.declared.find.Where.{Where}
 use Rattle.track.specs.declared.find.Where.the-variants.{On, Off}
-use Rattle.track.specs.declared.find.Sector.{Sector}
-use Rattle.track.specs.declared.find.Sector.the-variants.{Slot, Fault}
 use Rattle.track.specs.Image.{trackBytes, withTrack, slotId, slotData, withData}
-use Rattle.track.specs.Find.{whereOf, slotUsed, sectorIn, sectorFrom, sectorFound}
+use Rattle.track.specs.Find.{Sector, Slot, Fault, whereOf, slotUsed, sectorIn, sectorFrom, sectorFound}
 use Rattle.track.proofs.Images.{length-track, track-same, track-other, label-kept, length-with-data, data-other}
 use Rattle.track.proofs.Finds.{where-in}
 use Rattle.track.proofs.Choices.{only-used}

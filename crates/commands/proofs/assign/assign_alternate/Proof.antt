@@ -45,8 +45,8 @@ enum-known-verdict-2 c = search needs
 failed-requires : tie.Need-failed-requires
 failed-requires c κs =
     let alternate = c .before .before .before .before .before .before in
-    let a = alternate .before .before .before .before in
-    let known = alternate .before .before .before .shared-slice-known .given in
+    let a = alternate .before .before .before .before .before in
+    let known = alternate .before .before .before .shared-slice-known2 .given in
     let h₁ : getD (a .args .given .now) 1 0 < 256 = omega (arith, known 1) in
     let h₂ : getD (a .args .given .now) 2 0 < 256 = omega (arith, known 2) in
     let below = alternate-below _ _ (alternate .alternate-of .ensures) h₁ h₂ in
@@ -85,10 +85,9 @@ part-make-pair-end c = search needs
 -- src/assign.rt:111:13
 make-pair-requires : tie.Need-make-pair-requires
 make-pair-requires c κs =
-    let told = c .before .before .before .before .before .before .before in
-    let judged = told .before .before in
-    let a = judged .before .before .before .before .before .before .before in
-    let in-drive = passed-in _ _ _ _ _ _ (judged .assign-faults .ensures) (a .pre .0 .within) (told .enum-told .given .1) in (
+    let judged = c .before .before .before .before .before .before .before .before in
+    let a = c .before .before .before .before .before .before .before .before .before .before .before .before .before .before .before .before in
+    let in-drive = passed-in _ _ _ _ _ _ (judged .assign-faults .ensures) (a .pre .0 .within) (c .before .before .before .before .before .before .enum-told .given .1) in (
       a .pre .0,
       track-in _ _ _ (c .before .before .before .track-of .ensures) (a .pre .3),
       track-in _ _ _ (c .before .before .track-of2 .ensures) in-drive,
@@ -109,7 +108,7 @@ returns : tie.Need-returns
 returns c =
     let judged = c .before .before .before .before in
     assign-refused _ _ _ _ _ _ _ (judged .before .before .before .alternate-of .ensures) _ (judged .assign-faults .ensures)
-    _ (c .before .before .verdict .given .1) (c .refused .ensures)
+    _ (c .before .before .verdict .given .1) (c .refused .ensures _)
 
 -- src/assign.rt:96:1
 same-length-2 : tie.Need-same-length-2
@@ -120,7 +119,7 @@ returns-2 : tie.Need-returns-2
 returns-2 c =
     let judged = c .before .before .before .before in
     assign-fails _ _ _ _ _ _ _ (judged .before .before .before .alternate-of .ensures) _ (judged .assign-faults .ensures)
-    _ _ (c .before .before .verdict2 .given .1) (c .failed .ensures)
+    _ _ (c .before .before .verdict2 .given .1) (c .failed .ensures _)
 
 -- src/assign.rt:96:1
 same-length-3 : tie.Need-same-length-3
@@ -129,14 +128,9 @@ same-length-3 c = search needs
 -- src/assign.rt:96:1
 returns-3 : tie.Need-returns-3
 returns-3 c =
-    let made = c .before .before .before in
-    let filled = made .before .before .before .before .before .before in
-    let told = filled .before .before in
-    let judged = told .before .before in
-    assign-well _ _ _ _ _ _ _ (judged .before .before .before .alternate-of .ensures) _ (judged .assign-faults .ensures)
-    _ _ _ _ (told .enum-told .given .1)
-    (made .before .before .before .before .track-of .ensures) (made .before .before .before .track-of2 .ensures)
-    (filled .fill-of .ensures .0) (made .make-pair .ensures) (c .good2 .ensures)
+    assign-well _ _ _ _ _ _ _ (c .before .before .before .before .before .before .before .before .before .before .before .before .before .before .before .alternate-of .ensures) _ (c .before .before .before .before .before .before .before .before .before .before .before .before .assign-faults .ensures)
+    _ _ _ _ (c .before .before .before .before .before .before .before .before .before .before .enum-told .given .1) (c .before .before .before .before .before .before .before .track-of .ensures) (c .before .before .before .before .before .before .track-of2 .ensures)
+    (c .before .before .before .before .before .before .before .before .before .fill-of .ensures .0) (c .before .before .before .make-pair .ensures) (c .good2 .ensures _)
 
 pub assign-alternate-spec : {M : Type 1} → statement M
 assign-alternate-spec =

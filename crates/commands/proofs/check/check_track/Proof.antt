@@ -49,11 +49,11 @@ failed-requires c κs =
 
 -- src/check.rt:26:9
 returns : tie.Need-returns
-returns c =
+returns c buffer =
     let checked = c .before .before in
     let asked = checked .before .before .before in
     check-fails _ _ _ _ _ _ _ _ (asked .before .before .before .before .before .pre .4) (asked .before .layout .ensures)
-    (asked .track-of .ensures) (checked .check-track .ensures) (c .before .if1 .taken) (c .failed .ensures)
+    (asked .track-of .ensures) (checked .check-track .ensures) (c .before .if1 .taken) (c .failed .ensures buffer)
 
 -- src/check.rt:28:5
 good-requires : tie.Need-good-requires
@@ -61,11 +61,11 @@ good-requires c κs = search needs
 
 -- src/check.rt:16:1
 returns-2 : tie.Need-returns-2
-returns-2 c =
+returns-2 c buffer =
     let checked = c .before .before in
     let asked = checked .before .before .before in
     check-well _ _ _ _ _ _ _ _ (asked .before .before .before .before .before .pre .4) (asked .before .layout .ensures)
-    (asked .track-of .ensures) (checked .check-track .ensures) (c .before .if1 .left) (c .good2 .ensures)
+    (asked .track-of .ensures) (checked .check-track .ensures) (c .before .if1 .left) (c .good2 .ensures buffer)
 
 pub check-track-spec : {M : Type 1} → statement M
 check-track-spec =

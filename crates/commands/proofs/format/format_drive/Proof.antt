@@ -34,7 +34,7 @@ returns : tie.Need-returns
 returns c =
     let tested = c .before in
     let asked = tested .before in
-    drive-fails _ _ _ _ _ _ (asked .before .track-of .ensures) _ (asked .splits-pair .ensures) (tested .if1 .taken) (c .failed .ensures)
+    drive-fails _ _ _ _ _ _ (asked .before .track-of .ensures) _ (asked .splits-pair .ensures) (tested .if1 .taken) (c .failed .ensures _)
 
 -- src/format.rt:138:16
 fill-of-requires : tie.Need-fill-of-requires
@@ -75,13 +75,8 @@ same-length-2 c = search needs
 -- src/format.rt:127:1
 returns-2 : tie.Need-returns-2
 returns-2 c =
-    let made = c .before .before .before .before in
-    let entry = made .before .before .before .before .before in
-    let tested = entry .before .before .before in
-    let asked = tested .before in
-    drive-well _ _ _ _ _ _ (asked .before .track-of .ensures) _ (asked .splits-pair .ensures)
-    _ _ _ _ (tested .if1 .left) (entry .before .fill-of .ensures .0) (entry .drive-at .ensures)
-    (made .make-drive .ensures) (c .before .settle .ensures) (c .good2 .ensures)
+    drive-well _ _ _ _ _ _ (c .before .before .before .before .before .before .before .before .before .before .before .before .before .track-of .ensures) _ (c .before .before .before .before .before .before .before .before .before .before .before .before .splits-pair .ensures) _ _ _ _ (c .before .before .before .before .before .before .before .before .before .before .before .if1 .left)
+    (c .before .before .before .before .before .before .before .before .before .before .fill-of .ensures .0) (c .before .before .before .before .before .before .before .before .before .drive-at .ensures) (c .before .before .before .before .make-drive .ensures) (c .before .settle .ensures) (c .good2 .ensures _)
 
 pub format-drive-spec : {M : Type 1} → statement M
 format-drive-spec =

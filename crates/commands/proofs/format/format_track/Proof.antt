@@ -1,4 +1,5 @@
-use Rattle.commands.proofs.Makings.{track-in, fill-lent}
+use mathlib.Core.Path.{refl}
+use Rattle.commands.proofs.Makings.{track-in}
 use Rattle.commands.proofs.Formats.{track-moved, track-taken, track-well}
 use borrow.Author.Needs.{needs}
 use Rattle.commands.proofs.format.format_track.Statement.{statement}
@@ -20,7 +21,7 @@ track-of-requires c κs = search needs
 -- src/format.rt:153:9
 state-of-requires : tie.Need-state-of-requires
 state-of-requires c κs =
-    let a = c .before .before .before .before in
+    let a = c .before .before .before .before .before in
     (a .pre .0, track-in _ _ _ (c .before .track-of .ensures) (a .pre .3))
 
 -- src/format.rt:154:8
@@ -37,11 +38,11 @@ same-length c = search needs
 
 -- src/format.rt:155:9
 returns : tie.Need-returns
-returns c =
+returns c buffer =
     let moved = c .before .before in
     let state = moved .before in
     track-moved _ _ _ _ _ _ (state .before .before .track-of .ensures) _ _ _ (state .state-of .ensures) _ (moved .is-moved .ensures)
-    (c .before .if1 .taken) (c .failed .ensures)
+    (c .before .if1 .taken) (c .failed .ensures buffer)
 
 -- src/format.rt:157:8
 is-taken-requires : tie.Need-is-taken-requires
@@ -57,31 +58,18 @@ same-length-2 c = search needs
 
 -- src/format.rt:158:9
 returns-2 : tie.Need-returns-2
-returns-2 c =
+returns-2 c buffer =
     let taken = c .before .before in
     let moved = taken .before .before in
     let state = moved .before in
     track-taken _ _ _ _ _ _ (state .before .before .track-of .ensures) _ _ _ (state .state-of .ensures) _ (moved .is-moved .ensures)
-    (taken .before .if1 .left) _ (taken .is-taken .ensures) (c .before .if2 .taken) (c .failed2 .ensures)
-
--- src/format.rt:161:36
-sub-make-at : tie.Need-sub-make-at
-sub-make-at c = search needs
-
--- src/format.rt:161:36
-part-make-at-start : tie.Need-part-make-at-start
-part-make-at-start c = search needs
-
--- src/format.rt:161:36
-part-make-at-end : tie.Need-part-make-at-end
-part-make-at-end c = search needs
+    (taken .before .if1 .left) _ (taken .is-taken .ensures) (c .before .if2 .taken) (c .failed2 .ensures buffer)
 
 -- src/format.rt:161:5
 make-at-requires : tie.Need-make-at-requires
 make-at-requires c κs =
-    let asked = c .before .before .before .before .before .before .before .before .before in
-    let a = asked .before .before .before in
-    (a .pre .0, track-in _ _ _ (asked .track-of .ensures) (a .pre .3), a .pre .5, a .pre .4, search needs)
+    let a = c .before .before .before .before .before .before .before .before .before .before .before in
+    (a .pre .0, track-in _ _ _ (c .before .before .before .before .before .before .before .track-of .ensures) (a .pre .3), a .pre .5, a .pre .4, a .pre .6)
 
 -- src/format.rt:162:5
 good-requires : tie.Need-good-requires
@@ -93,14 +81,13 @@ same-length-3 c = search needs
 
 -- src/format.rt:146:1
 returns-3 : tie.Need-returns-3
-returns-3 c =
-    let made = c .before .before .before in
-    let taken = made .before .before .before .before .before in
+returns-3 c buffer =
+    let taken = c .before .before .before .before .before .before in
     let moved = taken .before .before in
     let state = moved .before in
     track-well _ _ _ _ _ _ (state .before .before .track-of .ensures) _ _ _ (state .state-of .ensures) _ (moved .is-moved .ensures)
     (taken .before .if1 .left) _ (taken .is-taken .ensures)
-    _ _ (made .before .before .before .before .if2 .left) (fill-lent _ _) (made .make-at .ensures) (c .good2 .ensures)
+    _ _ (c .before .before .before .before .before .if2 .left) refl (c .before .before .before .make-at .ensures) (c .good2 .ensures buffer)
 
 pub format-track-spec : {M : Type 1} → statement M
 format-track-spec =
@@ -116,9 +103,6 @@ format-track-spec =
     failed-requires-2
     same-length-2
     returns-2
-    sub-make-at
-    part-make-at-start
-    part-make-at-end
     make-at-requires
     good-requires
     same-length-3

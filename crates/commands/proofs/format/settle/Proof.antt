@@ -17,7 +17,7 @@ with-drive-requires c κs = search needs
 
 -- src/format.rt:118:1
 returns : tie.Need-returns
-returns c = settled-by _ _ _ _ (c .before .drive-at .ensures) (c .with-drive .ensures)
+returns c = settled-by (c .before .before .args .drives) _ (c .before .before .args .drive) _ (c .before .drive-at .ensures) (c .with-drive .ensures)
 
 pub settle-spec : {M : Type 1} → statement M
 settle-spec = tie.close (tie.spec drive-at-requires with-drive-requires returns)

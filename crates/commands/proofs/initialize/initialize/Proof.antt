@@ -45,17 +45,17 @@ good-requires c κs = search needs
 
 -- src/initialize.rt:31:1
 returns : tie.Need-returns
-returns c =
+returns c buffer =
     let s = c .before .before .before in
-    initialize-invalid _ _ _ _ _ _ _ (s .before .config-of .ensures) (s .setting-of .ensures) (c .before .enum-told .given .1) (c .failed .ensures)
+    initialize-invalid _ _ _ _ _ _ _ (s .before .config-of .ensures) (s .setting-of .ensures) (c .before .enum-told .given .1) (c .failed .ensures buffer)
 
 -- src/initialize.rt:31:1
 returns-2 : tie.Need-returns-2
-returns-2 c =
+returns-2 c buffer =
     let d = c .before .before .before in
     let s = d .before .before .before in
     initialize-valid _ _ _ _ _ _ _ (s .before .config-of .ensures) (s .setting-of .ensures) _ (d .before .enum-told2 .given .1)
-    _ (d .drive-at .ensures) _ (c .before .with-drive .ensures) (c .good2 .ensures)
+    _ (d .drive-at .ensures) _ (c .before .with-drive .ensures) (c .good2 .ensures buffer)
 
 pub initialize-spec : {M : Type 1} → statement M
 initialize-spec =

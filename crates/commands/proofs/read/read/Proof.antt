@@ -4,7 +4,8 @@ use Prim.Native.Nat.{_*_, _≤_, _<_}
 use native.Mathlib.Nat.{le-trans}
 use native.Mathlib.Omega.{arith}
 use Rattle.geometry.proofs.Sizes.{sectors-most}
-use Rattle.commands.proofs.Ends.{read-most, read-code, read-leaves, count-most, room-all, room-done, bytes-most}
+use Rattle.commands.proofs.Ends.{count-most, room-all, room-done}
+use Rattle.commands.proofs.ReadEnds.{read-most, read-code, read-leaves, bytes-most}
 use borrow.Author.Needs.{needs}
 use Rattle.commands.proofs.read.read.Statement.{statement}
 use Rattle.commands.proofs.read.read.Tie as tie
@@ -18,48 +19,48 @@ read-sectors-requires c κs =
     (a .pre .0, omega (arith, a .pre .2, c .before .count-of .ensures), room-all _ _ _ _ (c .before .count-of .ensures) (a .pre .3))
 
 -- the sectors done are no more than were asked for, and those are at most 256
-most : (c : tie.After-slice-known2) → c .before .before .read-sectors .result .sectors ≤ c .before .before .before .before .count-of .result
+most : (c : tie.After-slice-known3) → c .before .before .read-sectors .result .sectors ≤ c .before .before .before .before .count-of .result
 most c =
-    let a = c .before .before .before .before .before .before .before .before in
-    read-most (a .args .b) (a .args .p) (a .args .c) _ _ _ _ _ (a .pre .0) (a .pre .2)
-    (c .before .before .before .before .count-of .ensures) (c .before .before .read-sectors .ensures)
+    let k = c .before .before .before .before in
+    let a = k .before .before .before .before in
+    read-most (a .args .b) (a .args .p) _ _ _ _ _ (a .pre .0) (a .pre .2) (k .count-of .ensures) (c .before .before .read-sectors .ensures)
 
 extra : (a : tie.Start) → a .args .b .extra < 256
 extra a = omega arith
 
-few : (c : tie.After-slice-known2) → c .before .before .read-sectors .result .sectors ≤ 256
+few : (c : tie.After-slice-known3) → c .before .before .read-sectors .result .sectors ≤ 256
 few c =
     let k = c .before .before .before .before in
     let a = k .before .before .before .before in
     le-trans (most c) (count-most (a .args .b) _ (extra a) (k .count-of .ensures))
 
-bytes : (c : tie.After-slice-known2)
+bytes : (c : tie.After-slice-known3)
     → c .before .before .read-sectors .result .sectors * c .before .before .before .before .before .before .before .before .args .p .size ≤ 131072
 bytes c = bytes-most _ _ (few c) (c .before .before .before .before .before .before .before .before .pre .0 .within .size-most)
 
 mul-bytes : tie.Need-mul-bytes
 mul-bytes c = omega (arith, bytes c)
 
-last-in-requires : tie.Need-last-in-requires
-last-in-requires c κs =
-    let k = c .before in
+keep-last-requires : tie.Need-keep-last-requires
+keep-last-requires c κs =
+    let k = c .before .before in
     let a = k .before .before .before .before .before .before .before .before in
-    let long : length (k .before .before .read-sectors .last .1 .1 .1 .1 .0) ≡ length (a .args .area .now) = search needs in
-    (a .pre .0 .within .size-most, room-done _ _ _ _ _ (most k) (k .before .before .before .before .count-of .ensures) (rw long (a .pre .3)), few k)
-
-with-buffer-requires : tie.Need-with-buffer-requires
-with-buffer-requires c κs = search needs
+    let long : length (k .before .before .read-sectors .last .1 .1 .1 .1 .0) ≡ length (a .args .area .now) = search needs in (
+      omega (arith, a .pre .0 .within .size-most, a .pre .4),
+      room-done _ _ _ _ _ (most k) (k .before .before .before .before .count-of .ensures) (rw long (a .pre .3)),
+      few k,
+    )
 
 cast-finish : tie.Need-cast-finish
-cast-finish c = omega (arith, bytes (c .before .before .before))
+cast-finish c = omega (arith, bytes (c .before .before .before .before .before))
 
 finish-requires : tie.Need-finish-requires
 finish-requires c κs =
-    let k = c .before .before .before in
+    let k = c .before .before .before .before .before in
     let a = k .before .before .before .before .before .before .before .before in (
       a .pre .1,
       few k,
-      read-code (a .args .b) (a .args .p) (a .args .c) _ _ _ _ _ (a .pre .0) (a .pre .2)
+      read-code (a .args .b) (a .args .p) _ _ _ _ _ (a .pre .0) (a .pre .2)
           (k .before .before .before .before .count-of .ensures) (k .before .before .read-sectors .ensures),
       omega (arith, a .pre .2, sectors-most (a .args .p) (a .pre .0 .within)),
     )
@@ -67,13 +68,16 @@ finish-requires c κs =
 same-length : tie.Need-same-length
 same-length c = search needs
 
+same-length-2 : tie.Need-same-length-2
+same-length-2 c = search needs
+
 returns : tie.Need-returns
 returns c =
-    let k = c .before .before .before .before in
+    let k = c .before .before .before .before .before .before in
     let a = k .before .before .before .before .before .before .before .before in
-    read-leaves (a .args .b) (a .args .p) (a .args .c) _ _ _ _ _ (a .pre .0) (a .pre .2)
+    read-leaves (a .args .b) (a .args .p) _ _ _ _ _ (a .pre .0) (a .pre .2)
     (k .before .before .before .before .count-of .ensures) (k .before .before .read-sectors .ensures)
-    _ _ _ (c .before .before .last-in .ensures) (c .before .with-buffer .ensures) (c .finish .ensures)
+    _ _ _ _ (c .before .before .before .keep-last .ensures) (c .finish .ensures)
 
 pub read-spec : {M : Type 1} → statement M
 read-spec =
@@ -82,9 +86,9 @@ read-spec =
     count-of-requires
     read-sectors-requires
     mul-bytes
-    last-in-requires
-    with-buffer-requires
+    keep-last-requires
     cast-finish
     finish-requires
     same-length
+    same-length-2
     returns)

@@ -1,9 +1,9 @@
 use mathlib.Core.Path.{refl}
-use Prim.Native.Nat.{_+_, _-_, _≤_}
+use Prim.Native.Nat.{_+_, _-_, _*_, _≤_}
 use native.Mathlib.Omega.{arith}
 use lib.ListN.{length, length-take, length-drop}
 use Rattle.geometry.proofs.Sizes.{sectors-most}
-use Rattle.commands.proofs.Readings.{Reading, reading-none, reading-room, reading-all, reading-stop, reading-more}
+use Rattle.commands.proofs.ReadLoops.{Reading, reading-none, reading-room, reading-all, reading-most, reading-stop, reading-whole, reading-more}
 use borrow.Author.Needs.{needs}
 use Rattle.commands.proofs.read.read_sectors.Statement.{statement}
 use Rattle.commands.proofs.read.read_sectors.Tie as tie
@@ -17,57 +17,92 @@ abbrev μ-loop : tie.MeasureT-loop
 loop-holds : tie.Need-loop-holds Inv-loop μ-loop
 loop-holds c = reading-none _ _ _ _ _
 
--- the sector's place is within the area, and its address on the drive
-room : (c : tie.In-loop Inv-loop μ-loop) → c .before .loop .at + c .before .before .before .before .args .p .size ≤ length (c .before .loop .area)
-room c = reading-room _ _ _ _ _ _ _ _ (c .before .loop .inv) (c .loop-test .taken) (c .before .before .before .before .pre .2)
-
+-- the address is on the drive
 address : (c : tie.In-loop Inv-loop μ-loop) → c .before .before .before .before .args .a .0 + c .before .loop .i ≤ 229375
 address c = let a = c .before .before .before .before in omega (arith, a .pre .1, c .loop-test .taken, sectors-most (a .args .p) (a .pre .0 .within))
+
+cast-t15 : tie.Need-cast-t15 Inv-loop μ-loop
+cast-t15 c = omega (arith, address c)
+
+add-t16 : tie.Need-add-t16 Inv-loop μ-loop
+add-t16 c = omega (arith, address c)
+
+sub-sectors-here : tie.Need-sub-sectors-here Inv-loop μ-loop
+sub-sectors-here c = search needs
+
+sectors-here-requires : tie.Need-sectors-here-requires Inv-loop μ-loop
+sectors-here-requires c κs = search needs
+
+-- the sectors here are among those left, and their places within the area
+left : (c : tie.After-sectors-here Inv-loop μ-loop)
+    → c .before .before .loop .i + c .sectors-here .result ≤ c .before .before .before .before .before .args .n
+left c = omega (arith, c .before .loop-test .taken, c .sectors-here .ensures .1)
+
+room : (c : tie.After-sectors-here Inv-loop μ-loop)
+    → c .before .before .loop .at + c .sectors-here .result * c .before .before .before .before .before .args .p .size
+    ≤ length (c .before .before .loop .area)
+room c =
+    let a = c .before .before .before .before .before in
+    reading-room _ _ _ _ _ _ _ _ (c .before .before .loop .inv) (a .pre .0) (a .pre .1) (a .pre .2) _ (left c)
+
+mul-end : tie.Need-mul-end Inv-loop μ-loop
+mul-end c = omega (arith, room c)
 
 add-end : tie.Need-add-end Inv-loop μ-loop
 add-end c = omega (arith, room c)
 
-cast-t13 : tie.Need-cast-t13 Inv-loop μ-loop
-cast-t13 c = omega (arith, address c)
+sub-read-part : tie.Need-sub-read-part Inv-loop μ-loop
+sub-read-part c = search needs
 
-add-t14 : tie.Need-add-t14 Inv-loop μ-loop
-add-t14 c = omega (arith, address c)
+part-read-part-start : tie.Need-part-read-part-start Inv-loop μ-loop
+part-read-part-start c = search needs
 
-sub-read-one : tie.Need-sub-read-one Inv-loop μ-loop
-sub-read-one c = search needs
+part-read-part-end : tie.Need-part-read-part-end Inv-loop μ-loop
+part-read-part-end c = room c
 
-part-read-one-start : tie.Need-part-read-one-start Inv-loop μ-loop
-part-read-one-start c = search needs
+read-part-requires : tie.Need-read-part-requires Inv-loop μ-loop
+read-part-requires c κs =
+    let here = c .before in
+    let a = here .before .before .before .before .before in (
+      a .pre .0,
+      omega (arith, a .pre .1, here .before .loop-test .taken),
+      here .sectors-here .ensures .0,
+      here .sectors-here .ensures .2,
+      simp (length-take, length-drop) (omega (arith, room here)),
+    )
 
-part-read-one-end : tie.Need-part-read-one-end Inv-loop μ-loop
-part-read-one-end c = room c
-
-read-one-requires : tie.Need-read-one-requires Inv-loop μ-loop
-read-one-requires c κs =
-    let a = c .before .before .before .before .before in
-    (a .pre .0, omega (arith, a .pre .1, c .before .loop-test .taken), simp (length-take, length-drop) (omega (arith, room (c .before))))
+add-i : tie.Need-add-i Inv-loop μ-loop
+add-i c =
+    let here = c .before .before .before .before .before in
+    let a = here .before .before .before .before .before in
+    let most = reading-most _ _ _ _ _ _ _ _ (here .before .before .loop .inv) (a .pre .0) (a .pre .1) (a .pre .2) _ (left here)
+    _ _ _ refl (c .before .before .before .read-part .ensures) in
+    omega (arith, most)
 
 same-length : tie.Need-same-length Inv-loop μ-loop
 same-length c = search needs
 
 returns : tie.Need-returns Inv-loop μ-loop
 returns c =
-    let in-loop = c .before .before .before .before .before in
-    reading-stop _ _ _ _ _ _ _ _ (in-loop .before .loop .inv) _ _ _ (in-loop .loop-test .taken) refl
-    (c .before .before .before .read-one .ensures) (c .if1 .taken)
-
-add-i : tie.Need-add-i Inv-loop μ-loop
-add-i c = search needs
+    let here = c .before .before .before .before .before .before .before in
+    let a = here .before .before .before .before .before in
+    reading-stop _ _ _ _ _ _ _ _ (here .before .before .loop .inv) (a .pre .0) (a .pre .1) (a .pre .2) _ (left here)
+    _ _ _ refl (c .before .before .before .before .before .read-part .ensures) (c .if1 .taken)
 
 loop-less : tie.Need-loop-less Inv-loop μ-loop
-loop-less c = search needs
+loop-less c =
+    let here = c .before .before .before .before .before .before .before in
+    let a = here .before .before .before .before .before in
+    let whole = reading-whole _ _ _ _ _ _ _ _ (here .before .before .loop .inv) (a .pre .0) (a .pre .1) (a .pre .2) _ (left here)
+    _ _ _ refl (c .before .before .before .before .before .read-part .ensures) (c .if1 .left) in
+    omega (arith, whole, here .before .loop-test .taken, here .sectors-here .ensures .0)
 
 loop-again : tie.Need-loop-again Inv-loop μ-loop
 loop-again c =
-    let in-loop = c .before .before .before .before .before in
-    let a = in-loop .before .before .before .before in
-    reading-more _ _ _ _ _ _ _ _ (in-loop .before .loop .inv) _ _ _ (in-loop .loop-test .taken) refl
-    (c .before .before .before .read-one .ensures) (a .pre .0) (a .pre .1) (a .pre .2) (c .if1 .left)
+    let here = c .before .before .before .before .before .before .before in
+    let a = here .before .before .before .before .before in
+    reading-more _ _ _ _ _ _ _ _ (here .before .before .loop .inv) (a .pre .0) (a .pre .1) (a .pre .2) _ (left here)
+    _ _ _ refl (c .before .before .before .before .before .read-part .ensures) (c .if1 .left)
 
 same-length-2 : tie.Need-same-length-2 Inv-loop μ-loop
 same-length-2 c = search needs
@@ -82,16 +117,19 @@ read-sectors-spec =
     Inv-loop
     μ-loop
     loop-holds
+    cast-t15
+    add-t16
+    sub-sectors-here
+    sectors-here-requires
+    mul-end
     add-end
-    cast-t13
-    add-t14
-    sub-read-one
-    part-read-one-start
-    part-read-one-end
-    read-one-requires
+    sub-read-part
+    part-read-part-start
+    part-read-part-end
+    read-part-requires
+    add-i
     same-length
     returns
-    add-i
     loop-less
     loop-again
     same-length-2

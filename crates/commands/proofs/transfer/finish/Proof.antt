@@ -12,7 +12,7 @@ good-requires c κs = search needs
 
 returns : tie.Need-returns
 unfolding finishOf
-returns c = search (needs, decide)
+returns c buffer = search (c .good2 .ensures buffer, needs, decide)
 
 cast-t10 : tie.Need-cast-t10
 cast-t10 c = search needs
@@ -28,7 +28,7 @@ failed-requires c κs = search needs
 
 returns-2 : tie.Need-returns-2
 unfolding finishOf
-returns-2 c = search (needs, decide)
+returns-2 c buffer = search (c .failed .ensures buffer, needs, decide)
 
 pub finish-spec : {M : Type 1} → statement M
 finish-spec =

@@ -34,7 +34,10 @@ same-length c = search needs
 -- src/buffer.rt:36:1
 returns : tie.Need-returns
 unfolding goodOutcome
-returns c = (refl, simp (c .before .before .put-front .ensures, c .before .before .before .before .before .before .drive-at .ensures))
+returns c =
+    let d = c .before .before .before .before .before .before .drive-at in
+    let four : length (d .result .sense) ≡ 4 = search needs in
+    (λ buffer. refl, rw (d .ensures) at four, simp (c .before .before .put-front .ensures, d .ensures))
 
 pub request-sense-spec : {M : Type 1} → statement M
 request-sense-spec =

@@ -11,11 +11,6 @@ use Rattle.control.proofs.logic.either.Reads as either-reads
 use Rattle.control.proofs.checks.is_valid.Reads as is-valid-reads
 use Rattle.control.proofs.checks.limits_of.Reads as limits-of-reads
 use Rattle.control.proofs.checks.order.Reads as order-reads
-use Rattle.control.proofs.table.entry_of.Reads as entry-of-reads
-
--- src/checks.rt:180:9
-entry-of-requires : tie.Need-entry-of-requires
-entry-of-requires c κs = search needs
 
 -- src/checks.rt:186:39
 control-wrong-requires : tie.Need-control-wrong-requires
@@ -62,7 +57,7 @@ returns : tie.Need-returns
 returns c =
     let l = c .before .before .before in
     let t = l .before .before .before .before in
-    judge-order _ _ _ _ _ _ _ _ _ _ _ _ _ _ _ _ _ (t .before .before .before .before .entry-of .ensures) (t .before .before .control-wrong .ensures)
+    judge-order _ _ _ _ _ _ _ _ _ _ _ _ _ _ _ _ _ (t .before .before .before .before .pre .0) (t .before .before .control-wrong .ensures)
     (t .before .both .ensures) (t .either .ensures) (l .before .before .before .both2 .ensures) (l .before .before .is-valid .ensures)
     (l .before .both3 .ensures) (l .limits-of .ensures) (c .before .before .bytes-of .ensures) (c .before .bytes-of2 .ensures) (c .order .ensures)
 
@@ -70,7 +65,6 @@ pub judge-spec : {M : Type 1} → statement M
 judge-spec =
     tie.close
     (tie.spec
-    entry-of-requires
     control-wrong-requires
     both-requires
     either-requires

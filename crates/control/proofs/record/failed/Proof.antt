@@ -1,5 +1,5 @@
 use borrow.Author.Needs.{needs}
-use Rattle.model.specs.Record.{failedOutcome}
+use Rattle.model.specs.Record.{driveAt, withDrive, withSense, failedOutcome}
 use Rattle.control.proofs.record.failed.Statement.{statement}
 use Rattle.control.proofs.record.failed.Tie as tie
 use Rattle.control.proofs.record.failed.Reads as reads
@@ -25,8 +25,8 @@ add-t10 c = search needs
 
 -- src/record.rt:76:1
 returns : tie.Need-returns
-unfolding failedOutcome
-returns c = simp (c .with-sense .ensures, c .before .sense-of .ensures)
+unfolding failedOutcome withSense withDrive driveAt
+returns c buffer = simp (c .with-sense .ensures, c .before .sense-of .ensures)
 
 pub failed-spec : {M : Type 1} → statement M
 failed-spec = tie.close (tie.spec sense-of-requires with-sense-requires mul-t9 add-t10 returns)

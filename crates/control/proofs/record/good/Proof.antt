@@ -1,5 +1,5 @@
 use borrow.Author.Needs.{needs}
-use Rattle.model.specs.Record.{goodOutcome}
+use Rattle.model.specs.Record.{driveAt, withDrive, withSense, goodOutcome}
 use Rattle.control.proofs.record.good.Statement.{statement}
 use Rattle.control.proofs.record.good.Tie as tie
 use Rattle.control.proofs.record.good.Reads as reads
@@ -21,8 +21,8 @@ mul-t8 c = search needs
 
 -- src/record.rt:92:1
 returns : tie.Need-returns
-unfolding goodOutcome
-returns c = simp (c .with-sense .ensures, c .before .sense-of .ensures)
+unfolding goodOutcome withSense withDrive driveAt
+returns c buffer = simp (c .with-sense .ensures, c .before .sense-of .ensures)
 
 pub good-spec : {M : Type 1} → statement M
 good-spec = tie.close (tie.spec sense-of-requires with-sense-requires mul-t8 returns)

@@ -1,14 +1,17 @@
 use borrow.Author.Needs.{needs}
-use Rattle.model.specs.Record.{bareOutcome}
 use Rattle.control.proofs.record.refused.Statement.{statement}
 use Rattle.control.proofs.record.refused.Tie as tie
 use Rattle.control.proofs.record.refused.Reads as reads
 use Rattle.control.proofs.record.refused.Lts as lts
+use Rattle.control.proofs.record.bare_answer.Reads as bare-answer-reads
 
--- src/record.rt:61:1
+-- src/record.rt:75:17
+bare-answer-requires : tie.Need-bare-answer-requires
+bare-answer-requires c κs = search needs
+
+-- src/record.rt:70:1
 returns : tie.Need-returns
-unfolding bareOutcome
-returns c = search needs
+returns c buffer = c .bare-answer .ensures _
 
 pub refused-spec : {M : Type 1} → statement M
-refused-spec = tie.close (tie.spec returns)
+refused-spec = tie.close (tie.spec bare-answer-requires returns)

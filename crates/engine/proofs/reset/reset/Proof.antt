@@ -1,24 +1,26 @@
-use borrow.Author.Needs.{needs}
 use Rattle.model.specs.Engine.{resetOf}
+use Rattle.model.specs.Record.{bareOutcome}
+use mathlib.Core.Path.{ap, _∙_}
+use borrow.Author.Needs.{needs}
 use Rattle.engine.proofs.reset.reset.Statement.{statement}
 use Rattle.engine.proofs.reset.reset.Tie as tie
 use Rattle.engine.proofs.reset.reset.Reads as reads
 use Rattle.engine.proofs.reset.reset.Lts as lts
-use Rattle.control.proofs.record.refused.Reads as refused-reads
+use Rattle.control.proofs.record.bare_answer.Reads as bare-answer-reads
 use Rattle.engine.proofs.reset.fresh.Reads as fresh-reads
 
--- src/reset.rt:55:13
+-- src/reset.rt:56:21
 fresh-requires : tie.Need-fresh-requires
 fresh-requires c κs = search needs
 
--- src/reset.rt:55:5
-refused-requires : tie.Need-refused-requires
-refused-requires c κs = search needs
+-- src/reset.rt:57:17
+bare-answer-requires : tie.Need-bare-answer-requires
+bare-answer-requires c κs = search needs
 
 -- src/reset.rt:52:1
 returns : tie.Need-returns
 unfolding resetOf
-returns c = simp (c .refused .ensures, c .before .fresh .ensures)
+returns c = c .bare-answer .ensures _ ∙ ap (bareOutcome 0) (c .before .fresh .ensures)
 
 pub reset-spec : {M : Type 1} → statement M
-reset-spec = tie.close (tie.spec fresh-requires refused-requires returns)
+reset-spec = tie.close (tie.spec fresh-requires bare-answer-requires returns)

@@ -1,22 +1,20 @@
-use borrow.Author.Needs.{needs}
-use mathlib.Core.Path.{_≡_, refl, _∙_}
-use lib.ListN.{length}
-use Rattle.model.specs.Commands.{fillOf, onDisk, carryOut}
+use Rattle.engine.proofs.Carries.{sense-carries, buffer-carries, buffered-carries, read-carries, write-carries}
+use Rattle.engine.proofs.Carries.{carries, well-carries, failing-carries}
+use Rattle.engine.proofs.Admits.{drive-admits, check-admits, sound-admits, bad-admits, read-admits, write-admits, assign-admits}
 use Rattle.engine.proofs.Admits.{sense-admits, buffer-write-admits, buffer-read-admits, initialize-admits}
-use Rattle.engine.proofs.Admits.{fits, drive-admits, check-admits, sound-admits, bad-admits, read-admits, write-admits, assign-admits}
-use Rattle.engine.proofs.Senses.{four-sensed}
-use Rattle.engine.proofs.Carries.{carries, well-carries, failing-carries, format-carries}
-use Rattle.engine.proofs.Carries.{sense-carries, buffer-carries, read-carries, write-carries}
+use Rattle.model.specs.Commands.{onDisk, carryOut}
+use Rattle.model.specs.Record.{driveAt}
+use mathlib.Core.Path.{refl, _∙_}
+use borrow.Author.Needs.{needs}
 use Rattle.engine.proofs.run.with_parameters.Statement.{statement}
 use Rattle.engine.proofs.run.with_parameters.Tie as tie
 use Rattle.engine.proofs.run.with_parameters.Reads as reads
 use Rattle.engine.proofs.run.with_parameters.Lts as lts
 use Rattle.commands.proofs.assign.assign_alternate.Reads as assign-alternate-reads
 use Rattle.commands.proofs.check.check_track.Reads as check-track-reads
-use Rattle.commands.proofs.making.fill_of.Reads as fill-of-reads
+use Rattle.commands.proofs.format.format_bad.Reads as format-bad-reads
 use Rattle.commands.proofs.format.format_drive.Reads as format-drive-reads
-use Rattle.commands.proofs.format.format_track.Reads as format-track-reads
-use Rattle.commands.proofs.making.plain_fill.Reads as plain-fill-reads
+use Rattle.commands.proofs.format.format_sound.Reads as format-sound-reads
 use Rattle.commands.proofs.initialize.initialize.Reads as initialize-reads
 use Rattle.commands.proofs.read.read.Reads as read-reads
 use Rattle.commands.proofs.write.write.Reads as write-reads
@@ -26,288 +24,309 @@ use Rattle.control.proofs.buffer.write_buffer.Reads as write-buffer-reads
 use Rattle.control.proofs.record.failed.Reads as failed-reads
 use Rattle.control.proofs.record.good.Reads as good-reads
 
--- src/run.rt:48:31
+-- src/run.rt:57:31
 enum-told : tie.Need-enum-told
 enum-told c = search needs
 
--- src/run.rt:48:31
+-- src/run.rt:57:31
 good-requires : tie.Need-good-requires
 good-requires c κs = search needs
 
--- src/run.rt:49:33
+-- src/run.rt:58:33
 enum-told-2 : tie.Need-enum-told-2
 enum-told-2 c = search needs
 
--- src/run.rt:49:33
+-- src/run.rt:58:33
 good-requires-2 : tie.Need-good-requires-2
 good-requires-2 c κs = search needs
 
--- src/run.rt:50:58
+-- src/run.rt:59:63
 enum-told-3 : tie.Need-enum-told-3
 enum-told-3 c = search needs
 
--- src/run.rt:50:34
+-- src/run.rt:59:34
 request-sense-requires : tie.Need-request-sense-requires
 request-sense-requires c κs =
     let a = c .before .before .before .before .before .before .before in
     sense-admits (a .pre .0) (a .pre .1 ∙ c .before .enum-told3 .given .1)
 
--- src/run.rt:51:55
+-- src/run.rt:60:60
 enum-told-4 : tie.Need-enum-told-4
 enum-told-4 c = search needs
 
--- src/run.rt:51:33
+-- src/run.rt:60:33
 format-drive-requires : tie.Need-format-drive-requires
+unfolding driveAt
 format-drive-requires c κs =
-    let a = c .before .before .before .before .before .before .before in
-    drive-admits _ (a .pre .0) (a .pre .2) (a .pre .1 ∙ c .before .enum-told4 .given .1)
+    let a = c .before .before .before .before .before .before .before .before in
+    let k = drive-admits _ (a .pre .0) (a .pre .2) (a .pre .1 ∙ c .before .before .enum-told4 .given .1) in
+    (k .0, k .1, k .2, k .3, k .4, a .pre .3)
 
--- src/run.rt:52:53
+-- src/run.rt:61:58
 enum-told-5 : tie.Need-enum-told-5
 enum-told-5 c = search needs
 
--- src/run.rt:52:32
+-- src/run.rt:61:32
 check-track-requires : tie.Need-check-track-requires
+unfolding driveAt
 check-track-requires c κs =
     let a = c .before .before .before .before .before .before .before in
     check-admits _ (a .pre .0) (a .pre .2) (a .pre .1 ∙ c .before .enum-told5 .given .1)
 
--- src/run.rt:53:55
+-- src/run.rt:62:60
 enum-told-6 : tie.Need-enum-told-6
 enum-told-6 c = search needs
 
--- src/run.rt:53:69
-fill-of-requires : tie.Need-fill-of-requires
-fill-of-requires c κs =
-    let a = c .before .before .before .before .before .before in
-    fits (a .args .image .now) (a .pre .0) (a .pre .2) .within .size-most
-
--- src/run.rt:53:33
-format-track-requires : tie.Need-format-track-requires
-format-track-requires c κs =
+-- src/run.rt:62:33
+format-sound-requires : tie.Need-format-sound-requires
+unfolding driveAt
+format-sound-requires c κs =
     let a = c .before .before .before .before .before .before .before .before in
-    sound-admits _ (a .pre .0) (a .pre .2) (a .pre .1 ∙ c .before .before .enum-told6 .given .1)
+    let k = sound-admits _ (a .pre .0) (a .pre .2) (a .pre .1 ∙ c .before .before .enum-told6 .given .1) in
+    (k .0, k .1, k .2, k .3, k .4, a .pre .3)
 
--- src/run.rt:54:58
+-- src/run.rt:63:61
 enum-told-7 : tie.Need-enum-told-7
 enum-told-7 c = search needs
 
--- src/run.rt:54:70
-plain-fill-requires : tie.Need-plain-fill-requires
-plain-fill-requires c κs =
-    let a = c .before .before .before .before .before .before in
-    fits (a .args .image .now) (a .pre .0) (a .pre .2) .within .size-most
+-- src/run.rt:63:36
+format-bad-requires : tie.Need-format-bad-requires
+unfolding driveAt
+format-bad-requires c κs =
+    let a = c .before .before .before .before .before .before .before in
+    bad-admits _ (a .pre .0) (a .pre .2) (a .pre .1 ∙ c .before .enum-told7 .given .1)
 
--- src/run.rt:54:36
-format-track-requires-2 : tie.Need-format-track-requires-2
-format-track-requires-2 c κs =
-    let a = c .before .before .before .before .before .before .before .before in
-    bad-admits _ (a .pre .0) (a .pre .2) (a .pre .1 ∙ c .before .before .enum-told7 .given .1)
-
--- src/run.rt:55:40
+-- src/run.rt:64:45
 enum-told-8 : tie.Need-enum-told-8
 enum-told-8 c = search needs
 
--- src/run.rt:55:26
+-- src/run.rt:64:26
 read-requires : tie.Need-read-requires
+unfolding driveAt
 read-requires c κs =
-    let a = c .before .before .before .before .before .before .before .before in
-    read-admits _ (a .pre .0) (a .pre .2) (a .pre .1 ∙ c .before .before .enum-told8 .given .1)
+    let a = c .before .before .before .before .before .before .before .before .before in
+    let k = read-admits _ (a .pre .0) (a .pre .2) (a .pre .1 ∙ c .before .before .before .enum-told8 .given .1) in
+    (k .0, k .1, k .2, k .3, a .pre .3)
 
--- src/run.rt:56:49
+-- src/run.rt:65:47
 enum-told-9 : tie.Need-enum-told-9
 enum-told-9 c = search needs
 
--- src/run.rt:56:27
+-- src/run.rt:65:27
 write-requires : tie.Need-write-requires
+unfolding driveAt
 write-requires c κs =
-    let a = c .before .before .before .before .before .before .before in
-    write-admits _ (a .pre .0) (a .pre .2) (a .pre .1 ∙ c .before .enum-told9 .given .1)
+    let a = c .before .before .before .before .before .before .before .before in
+    let k = write-admits _ (a .pre .0) (a .pre .2) (a .pre .1 ∙ c .before .before .enum-told9 .given .1) in
+    (k .0, k .1, k .2, k .3, a .pre .3)
 
--- src/run.rt:57:26
+-- src/run.rt:66:26
 enum-told-10 : tie.Need-enum-told-10
 enum-told-10 c = search needs
 
--- src/run.rt:57:26
+-- src/run.rt:66:26
 good-requires-3 : tie.Need-good-requires-3
 good-requires-3 c κs = search needs
 
--- src/run.rt:58:70
+-- src/run.rt:67:68
 enum-told-11 : tie.Need-enum-told-11
 enum-told-11 c = search needs
 
--- src/run.rt:58:37
+-- src/run.rt:67:37
 assign-alternate-requires : tie.Need-assign-alternate-requires
+unfolding driveAt
 assign-alternate-requires c κs =
-    let a = c .before .before .before .before .before .before .before in
-    assign-admits _ (a .pre .0) (a .pre .2) (a .pre .1 ∙ c .before .enum-told11 .given .1)
+    let a = c .before .before .before .before .before .before .before .before in
+    let k = assign-admits _ (a .pre .0) (a .pre .2) (a .pre .1 ∙ c .before .before .enum-told11 .given .1) in
+    (k .0, k .1, k .2, k .3, k .4, k .5, a .pre .3)
 
--- src/run.rt:59:33
+-- src/run.rt:68:61
 enum-told-12 : tie.Need-enum-told-12
 enum-told-12 c = search needs
 
--- src/run.rt:59:33
+-- src/run.rt:68:33
 write-buffer-requires : tie.Need-write-buffer-requires
 write-buffer-requires c κs =
-    let a = c .before .before .before .before .before .before in
-    buffer-write-admits (a .pre .0) (a .pre .1 ∙ c .enum-told12 .given .1)
+    let a = c .before .before .before .before .before .before .before in
+    let k = buffer-write-admits (a .pre .0) (a .pre .1 ∙ c .before .enum-told12 .given .1) in
+    (k .0, a .pre .3, k .1)
 
--- src/run.rt:60:54
+-- src/run.rt:69:59
 enum-told-13 : tie.Need-enum-told-13
 enum-told-13 c = search needs
 
--- src/run.rt:60:32
+-- src/run.rt:69:32
 read-buffer-requires : tie.Need-read-buffer-requires
 read-buffer-requires c κs =
-    let a = c .before .before .before .before .before .before .before in
-    buffer-read-admits (a .pre .0) (a .pre .1 ∙ c .before .enum-told13 .given .1)
+    let a = c .before .before .before .before .before .before .before .before in
+    let k = buffer-read-admits (a .pre .0) (a .pre .1 ∙ c .before .before .enum-told13 .given .1) in
+    (k .0, a .pre .3, k .1)
 
--- src/run.rt:61:56
+-- src/run.rt:70:61
 enum-told-14 : tie.Need-enum-told-14
 enum-told-14 c = search needs
 
--- src/run.rt:61:32
+-- src/run.rt:70:32
 initialize-requires : tie.Need-initialize-requires
 initialize-requires c κs =
     let a = c .before .before .before .before .before .before .before in
     initialize-admits (a .pre .0) (a .pre .1 ∙ c .before .enum-told14 .given .1)
 
--- src/run.rt:62:29
+-- src/run.rt:71:29
 enum-told-15 : tie.Need-enum-told-15
 enum-told-15 c = search needs
 
--- src/run.rt:62:29
+-- src/run.rt:71:29
 failed-requires : tie.Need-failed-requires
 failed-requires c κs = search needs
 
--- src/run.rt:41:1
+-- src/run.rt:42:1
 returns : tie.Need-returns
 unfolding carryOut
-returns c = well-carries _ _ _ _ _ _ _ _ _ (c .before .enum-told .given .1) _ refl (c .good2 .ensures)
+returns c = well-carries _ _ _ _ _ _ _ _ _ (c .before .enum-told .given .1) _ refl (c .good2 .ensures _)
 
--- src/run.rt:41:1
+-- src/run.rt:42:1
 returns-2 : tie.Need-returns-2
 unfolding carryOut
-returns-2 c = well-carries _ _ _ _ _ _ _ _ _ (c .before .enum-told2 .given .1) _ refl (c .good3 .ensures)
+returns-2 c = well-carries _ _ _ _ _ _ _ _ _ (c .before .enum-told2 .given .1) _ refl (c .good3 .ensures _)
 
--- src/run.rt:41:1
+-- src/run.rt:42:1
 same-length : tie.Need-same-length
 same-length c = search needs
 
--- src/run.rt:41:1
+-- src/run.rt:42:1
 returns-3 : tie.Need-returns-3
 returns-3 c =
-    let a = c .before .before .before .before .before .before .before .before .before .before in
-    let four = four-sensed (a .args .c) _ (a .good .0) (a .args .b .drive) in
-    sense-carries _ _ _ _ _ _ _ _ (c .before .before .before .before .enum-told3 .given .1) four _ (c .before .before .request-sense .ensures)
+    let k = c .before .before .request-sense .ensures in
+    sense-carries _ _ _ _ _ _ _ _ (c .before .before .before .before .enum-told3 .given .1) _ (k .0 _) (k .1) (k .2)
 
--- src/run.rt:41:1
+-- src/run.rt:42:1
 same-length-2 : tie.Need-same-length-2
 same-length-2 c = search needs
 
--- src/run.rt:41:1
-returns-4 : tie.Need-returns-4
-unfolding carryOut onDisk
-returns-4 c = carries _ _ _ _ _ _ _ _ _ (c .before .before .before .before .enum-told4 .given .1) _ refl _ (c .before .before .format-drive .ensures)
-
--- src/run.rt:41:1
+-- src/run.rt:42:1
 same-length-3 : tie.Need-same-length-3
 same-length-3 c = search needs
 
--- src/run.rt:41:1
-returns-5 : tie.Need-returns-5
+-- src/run.rt:42:1
+returns-4 : tie.Need-returns-4
 unfolding carryOut onDisk
-returns-5 c = carries _ _ _ _ _ _ _ _ _ (c .before .before .enum-told5 .given .1) _ refl _ (c .check-track .ensures)
+returns-4 c = carries _ _ _ _ _ _ _ _ _ (c .before .before .before .before .before .enum-told4 .given .1) _ refl _ (c .before .before .format-drive .ensures)
 
--- src/run.rt:41:1
+-- src/run.rt:42:1
 same-length-4 : tie.Need-same-length-4
 same-length-4 c = search needs
 
--- src/run.rt:41:1
-returns-6 : tie.Need-returns-6
-unfolding carryOut onDisk fillOf
-returns-6 c =
-    let made = c .before .before .before .before in
-    let a = made .before .before .before .before .before .before .before in
-    format-carries _ _ _ _ _ _ _ _ _ (made .before .enum-told6 .given .1) _ _ (fillOf _ _ (a .args .c)) _ _ refl
-    (made .fill-of .ensures .0) (c .before .before .format-track .ensures)
+-- src/run.rt:42:1
+returns-5 : tie.Need-returns-5
+unfolding carryOut onDisk
+returns-5 c = carries _ _ _ _ _ _ _ _ _ (c .before .before .enum-told5 .given .1) _ refl _ (c .check-track .ensures _)
 
--- src/run.rt:41:1
+-- src/run.rt:42:1
 same-length-5 : tie.Need-same-length-5
 same-length-5 c = search needs
 
--- src/run.rt:41:1
-returns-7 : tie.Need-returns-7
-unfolding carryOut onDisk
-returns-7 c =
-    let made = c .before .before .before .before in
-    format-carries _ _ _ _ _ _ _ _ _ (made .before .enum-told7 .given .1) _ _ _ _ _ refl
-    (made .plain-fill .ensures .0) (c .before .before .format-track2 .ensures)
-
--- src/run.rt:41:1
+-- src/run.rt:42:1
 same-length-6 : tie.Need-same-length-6
 same-length-6 c = search needs
 
--- src/run.rt:41:1
+-- src/run.rt:42:1
+returns-6 : tie.Need-returns-6
+unfolding carryOut onDisk
+returns-6 c = carries _ _ _ _ _ _ _ _ _ (c .before .before .before .before .before .enum-told6 .given .1) _ refl _ (c .before .before .format-sound .ensures)
+
+-- src/run.rt:42:1
 same-length-7 : tie.Need-same-length-7
 same-length-7 c = search needs
 
--- src/run.rt:41:1
-returns-8 : tie.Need-returns-8
-returns-8 c = read-carries _ _ _ _ _ _ _ _ _ (c .before .before .before .before .before .enum-told8 .given .1) (c .before .before .read .ensures)
+-- src/run.rt:42:1
+returns-7 : tie.Need-returns-7
+unfolding carryOut onDisk
+returns-7 c = carries _ _ _ _ _ _ _ _ _ (c .before .before .before .before .enum-told7 .given .1) _ refl _ (c .before .before .format-bad .ensures _)
 
--- src/run.rt:41:1
+-- src/run.rt:42:1
 same-length-8 : tie.Need-same-length-8
 same-length-8 c = search needs
 
--- src/run.rt:41:1
-returns-9 : tie.Need-returns-9
-returns-9 c = write-carries _ _ _ _ _ _ _ _ _ (c .before .before .before .before .enum-told9 .given .1) (c .before .before .write .ensures)
-
--- src/run.rt:41:1
-returns-10 : tie.Need-returns-10
-unfolding carryOut
-returns-10 c = well-carries _ _ _ _ _ _ _ _ _ (c .before .enum-told10 .given .1) _ refl (c .good4 .ensures)
-
--- src/run.rt:41:1
+-- src/run.rt:42:1
 same-length-9 : tie.Need-same-length-9
 same-length-9 c = search needs
 
--- src/run.rt:41:1
-returns-11 : tie.Need-returns-11
-unfolding carryOut onDisk
-returns-11 c =
-    carries _ _ _ _ _ _ _ _ _ (c .before .before .before .before .enum-told11 .given .1) _ refl _ (c .before .before .assign-alternate .ensures)
-
--- src/run.rt:41:1
-returns-12 : tie.Need-returns-12
-unfolding carryOut
-returns-12 c = well-carries _ _ _ _ _ _ _ _ _ (c .before .enum-told12 .given .1) _ refl (c .write-buffer .ensures)
-
--- src/run.rt:41:1
+-- src/run.rt:42:1
 same-length-10 : tie.Need-same-length-10
 same-length-10 c = search needs
 
--- src/run.rt:41:1
-returns-13 : tie.Need-returns-13
-returns-13 c =
-    let a = c .before .before .before .before .before .before .before .before .before .before in
-    let whole : length (a .args .c .buffer) ≡ 512 = search needs in
-    buffer-carries _ _ _ _ _ _ _ _ (c .before .before .before .before .enum-told13 .given .1) whole _ (c .before .before .read-buffer .ensures)
+-- src/run.rt:42:1
+returns-8 : tie.Need-returns-8
+returns-8 c = read-carries _ _ _ _ _ _ _ _ _ (c .before .before .before .before .before .before .before .before .enum-told8 .given .1) (c .before .before .before .before .read .ensures)
 
--- src/run.rt:41:1
+-- src/run.rt:42:1
 same-length-11 : tie.Need-same-length-11
 same-length-11 c = search needs
 
--- src/run.rt:41:1
+-- src/run.rt:42:1
+same-length-12 : tie.Need-same-length-12
+same-length-12 c = search needs
+
+-- src/run.rt:42:1
+returns-9 : tie.Need-returns-9
+returns-9 c = write-carries _ _ _ _ _ _ _ _ _ (c .before .before .before .before .before .before .before .enum-told9 .given .1) (c .before .before .before .before .write .ensures)
+
+-- src/run.rt:42:1
+returns-10 : tie.Need-returns-10
+unfolding carryOut
+returns-10 c = well-carries _ _ _ _ _ _ _ _ _ (c .before .enum-told10 .given .1) _ refl (c .good4 .ensures _)
+
+-- src/run.rt:42:1
+same-length-13 : tie.Need-same-length-13
+same-length-13 c = search needs
+
+-- src/run.rt:42:1
+same-length-14 : tie.Need-same-length-14
+same-length-14 c = search needs
+
+-- src/run.rt:42:1
+returns-11 : tie.Need-returns-11
+unfolding carryOut onDisk
+returns-11 c = carries _ _ _ _ _ _ _ _ _ (c .before .before .before .before .before .enum-told11 .given .1) _ refl _ (c .before .before .assign-alternate .ensures)
+
+-- src/run.rt:42:1
+same-length-15 : tie.Need-same-length-15
+same-length-15 c = search needs
+
+-- src/run.rt:42:1
+returns-12 : tie.Need-returns-12
+returns-12 c =
+    let k = c .before .before .write-buffer .ensures in
+    buffered-carries _ _ _ _ _ _ _ _ (c .before .before .before .before .enum-told12 .given .1) _ (k .1) (k .0 _)
+
+-- src/run.rt:42:1
+same-length-16 : tie.Need-same-length-16
+same-length-16 c = search needs
+
+-- src/run.rt:42:1
+same-length-17 : tie.Need-same-length-17
+same-length-17 c = search needs
+
+-- src/run.rt:42:1
+returns-13 : tie.Need-returns-13
+returns-13 c =
+    let k = c .before .before .read-buffer .ensures in
+    buffer-carries _ _ _ _ _ _ _ _ (c .before .before .before .before .before .enum-told13 .given .1) _ (c .before .before .before .before .before .before .before .before .before .before .before .pre .3) (k .0 _) (k .1)
+
+-- src/run.rt:42:1
+same-length-18 : tie.Need-same-length-18
+same-length-18 c = search needs
+
+-- src/run.rt:42:1
 returns-14 : tie.Need-returns-14
 unfolding carryOut
-returns-14 c = carries _ _ _ _ _ _ _ _ _ (c .before .before .enum-told14 .given .1) _ refl _ (c .initialize .ensures)
+returns-14 c = carries _ _ _ _ _ _ _ _ _ (c .before .before .enum-told14 .given .1) _ refl _ (c .initialize .ensures _)
 
--- src/run.rt:41:1
+-- src/run.rt:42:1
 returns-15 : tie.Need-returns-15
 unfolding carryOut
-returns-15 c = failing-carries _ _ _ _ _ _ _ _ _ (c .before .enum-told15 .given .1) _ refl (c .failed .ensures)
+returns-15 c = failing-carries _ _ _ _ _ _ _ _ _ (c .before .enum-told15 .given .1) _ refl (c .failed .ensures _)
 
 pub with-parameters-spec : {M : Type 1} → statement M
 with-parameters-spec =
@@ -324,11 +343,9 @@ with-parameters-spec =
     enum-told-5
     check-track-requires
     enum-told-6
-    fill-of-requires
-    format-track-requires
+    format-sound-requires
     enum-told-7
-    plain-fill-requires
-    format-track-requires-2
+    format-bad-requires
     enum-told-8
     read-requires
     enum-told-9
@@ -350,24 +367,31 @@ with-parameters-spec =
     same-length
     returns-3
     same-length-2
-    returns-4
     same-length-3
-    returns-5
+    returns-4
     same-length-4
-    returns-6
+    returns-5
     same-length-5
-    returns-7
     same-length-6
+    returns-6
     same-length-7
-    returns-8
+    returns-7
     same-length-8
+    same-length-9
+    same-length-10
+    returns-8
+    same-length-11
+    same-length-12
     returns-9
     returns-10
-    same-length-9
+    same-length-13
+    same-length-14
     returns-11
+    same-length-15
     returns-12
-    same-length-10
+    same-length-16
+    same-length-17
     returns-13
-    same-length-11
+    same-length-18
     returns-14
     returns-15)

@@ -2,7 +2,7 @@ use Prim.Native.Nat.{_<_}
 use native.Mathlib.Omega.{arith}
 use Rattle.geometry.proofs.Sizes.{count-most}
 use Rattle.track.proofs.Finds.{where-in}
-use Rattle.track.proofs.Checks.{check-off, check-well, check-ill, home-partner}
+use Rattle.track.proofs.Checks.{check-off, check-well, check-ill, home-partner, home-sector}
 use borrow.Author.Needs.{needs}
 use Rattle.track.proofs.check.check_track.Statement.{statement}
 use Rattle.track.proofs.check.check_track.Tie as tie
@@ -38,7 +38,7 @@ ids-are-requires : tie.Need-ids-are-requires
 ids-are-requires c κs =
     let start = c .before .before .before .before .before .before .before .before .before .before in
     let h : start .args .t .0 < 65536 = omega (arith, count-most _ (start .pre .0 .within), start .pre .1) in
-    (search needs, search needs, search needs, home-partner _ _ _ _ _ _ h (c .before .before .home-state .ensures) (c .before .id-for .ensures))
+    (search needs, search needs, search needs, home-partner _ _ _ _ _ _ h (c .before .before .home-state .ensures) (c .before .id-for .ensures), home-sector _ _ _ _ (c .before .id-for .ensures))
 
 returns : tie.Need-returns
 returns c = check-off _ _ _ _ _ (c .before .before .before .where-is .ensures) _ (c .before .place .given .1)
