@@ -16,9 +16,9 @@ use Rattle.model.specs.declared.record.Drive.{Drive}
 use Rattle.model.specs.declared.record.Controller.{Controller}
 use Rattle.model.specs.declared.record.Outcome.{Outcome}
 use Rattle.model.specs.Block.{fromBuffer}
-use Rattle.model.specs.Record.{driveAt, withDrive, failedOutcome, goodOutcome}
+use Rattle.model.specs.Record.{driveIn, driveAt, withDrive, failedOutcome, goodOutcome}
 use Rattle.model.specs.Commands.{isMoved, isTaken, plainFill, fillOf, madeAt, driveFormatted, settled, formatDrive, aloneTests, formatTrack}
-use Rattle.control.specs.Leaves.{driveIn, recordOf, silent}
+use Rattle.control.specs.Leaves.{recordOf, silent}
 use Rattle.model.proofs.Judged.{judged-hit, judged-on, judged-none}
 use Rattle.commands.proofs.Endings.{ends-faulty, ends-well}
 use Rattle.commands.proofs.Makings.{fill-lent}

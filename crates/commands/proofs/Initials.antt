@@ -13,9 +13,9 @@ use Rattle.model.specs.declared.block.Block.{Block}
 use Rattle.model.specs.declared.record.Drive.{Drive}
 use Rattle.model.specs.declared.record.Controller.{Controller}
 use Rattle.model.specs.declared.record.Outcome.{Outcome}
-use Rattle.model.specs.Record.{driveAt, withDrive, failedOutcome, goodOutcome, failed, good}
+use Rattle.model.specs.Record.{driveIn, driveAt, withDrive, failedOutcome, goodOutcome, failed, good}
 use Rattle.model.specs.Commands.{initialized, initializedBy, initialize}
-use Rattle.control.specs.Leaves.{driveIn, recordOf, silent}
+use Rattle.control.specs.Leaves.{recordOf, silent}
 
 module _ (b : Block) (given : List ℕ) (c : Controller) (image config : List ℕ) (setting : Setting) (outcome : Outcome)
     (ten : config ≡ part 0 10 given) (is : setting ≡ settingOf config (length image)) where

@@ -1,17 +1,11 @@
 -- Sectors of one track that follow each other: their addresses, and where each is found. Of slots that hold one sector the
 -- first is used.
 use mathlib.Core.Path.{_≡_, refl, sym, ap}
-use mathlib.Core.Bool.{Bool, true, false, _&&_}
-use mathlib.Core.Option.{Option, some}
 use mathlib.Core.List.{List, []}
-use Prim.Native.Nat.{ℕ, zero, suc, _+_, _*_, _≤_, _<_}
+use Prim.Native.Nat.{ℕ, suc, _+_, _*_, _≤_, _<_}
 use native.Mathlib.Omega.{arith}
 use native.Mathlib.Nat.{div-add-mod', add-zero}
-use lib.Dec.{ltb}
 use lib.Arith.{digits-div, digits-mod}
-use borrow.Author.Tests.{lt-ltb}
-use Rattle.base.specs.Pick.{pick}
-use Rattle.base.specs.First.{firstFrom, firstBelow}
 use Rattle.geometry.specs.declared.params.Params.{Params}
 use Rattle.geometry.specs.declared.params.Lba.{Lba}
 use Rattle.geometry.specs.declared.params.Track.{Track}
@@ -19,35 +13,21 @@ use Rattle.geometry.specs.Params.{trackOf, sectorOf}
 use Rattle.track.specs.declared.find.Where.the-variants.{On, Off}
 use Rattle.track.specs.Id.{track}
 use Rattle.track.specs.Image.{trackBytes}
-use Rattle.track.specs.Find.{Sector, Slot, Fault, whereOf, holds, slotUsed, sectorIn, sectorFrom, sectorFound}
+use Rattle.track.specs.Find.{Sector, Slot, Fault, whereOf, sectorIn}
 use Rattle.track.specs.Run.{firstSlot}
+use Rattle.track.proofs.Choices.{sector-on, sector-off}
 use Rattle.model.specs.Transfer.{Transfer, ended, onward, found}
-
--- ---- where no other choice is made, the first slot that holds the sector is used
-pick-twice : (b : Bool) (x y : Option ℕ) → pick b x (pick b x y) ≡ pick b x y
-unfolding pick
-pick-twice true x y = refl
-pick-twice false x y = refl
-
-first-used : (test : ℕ → Bool) (n : ℕ) → pick (ltb 0 n && test 0) (some 0) (firstFrom test 0 n) ≡ firstFrom test 0 n
-unfolding firstFrom pick
-first-used test zero = refl
-first-used test (suc n) = rw (lt-ltb 0 (suc n) (omega arith)) (pick-twice (test 0) (some 0) (firstFrom test 1 n))
-
-used-first : (p : Params) (s : ℕ) (bytes : List ℕ) → slotUsed 0 p s bytes ≡ firstSlot p s bytes
-unfolding slotUsed firstSlot firstBelow
-used-first p s bytes = first-used (holds p s bytes) (p .sectors)
 
 -- ---- sector s of track t has address a: what is found by where the search for the track's sectors goes on
 module _ (p : Params) (a : ℕ) (image : List ℕ) (t : Track) (et : t ≡ trackOf p (record { 0 = a })) where
   pub found-on : (u : Track) (s : ℕ) → s ≡ sectorOf p (record { 0 = a }) → whereOf p t image ≡ On u
       → found [] p a image ≡ sectorIn u (firstSlot p s (trackBytes p u image))
-  unfolding found sectorFound sectorFrom
-  found-on u s es e = rw (← et, ← es, e) (ap (sectorIn u) (used-first p s (trackBytes p u image)))
+  unfolding found
+  found-on u s es e = rw (← et, ← es) (sector-on p t s image u e)
 
   pub found-off : (code : ℕ) → whereOf p t image ≡ Off code → found [] p a image ≡ Fault code
-  unfolding found sectorFound sectorFrom
-  found-off code e = rw (← et, e) refl
+  unfolding found
+  found-off code e = rw (← et) (sector-off p t _ image code e)
 
 -- track and sector by the address, and the other way
 module _ (p : Params) (t : Track) (s a : ℕ) where

@@ -15,12 +15,13 @@ use Rattle.model.specs.Commands.{read, write}
 use Rattle.commands.specs.declared.transfer.Done.{Done}
 use Rattle.control.specs.Leaves.{Left, leftBy}
 
--- n sectors from address a on. Of slots that hold the same sector the first is used: no other choice is made.
+-- n sectors from address a on, read.
 pub record ReadBy (x : Transfer) (done : Done) (before after : List ℕ) : Type 0 where
   pub sectors : done .sectors ≡ x .done
   pub code : done .code ≡ x .code
   pub area : after ≡ splice 0 (x .handed) before
 
+-- Of slots that hold the same sector the first is used: no other choice is made.
 abbrev pub HasRead : Params → (n a : ℕ) → (image : List ℕ) → Done → (before after : List ℕ) → Type 0
 HasRead p n a image done before after = ReadBy (reading [] p n a (begun image)) done before after
 

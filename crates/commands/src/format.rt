@@ -23,7 +23,8 @@ ghost use Rattle.geometry.specs.Params.{trackCount, trackOf};
 ghost use Rattle.track.specs.declared.id.State.the-variants.{Sound, Bad};
 ghost use Rattle.track.specs.Id.{partnerOf};
 ghost use Rattle.track.specs.Image.{Fits};
-ghost use Rattle.control.specs.Leaves.{driveIn, recordOf, leftWith, silent, Ends};
+ghost use Rattle.model.specs.Record.{driveIn};
+ghost use Rattle.control.specs.Leaves.{recordOf, leftWith, silent, Ends};
 ghost use Rattle.model.specs.Commands.{plainFill, fillOf, settled, formatDrive, formatTrack};
 
 // A drive is no longer pending.

@@ -39,7 +39,7 @@ pub fn done_of(sectors: usize, n: usize) -> Done
     }
 }
 
-// How many of the sectors left are on the track of an address.
+// Sectors to move in one go: at least one of those left, and all on the track of the address.
 pub fn sectors_here(p: Params, a: Lba, left: usize) -> usize
     requires { ⌜ Within p × (1 ≤ left) ⌝ }
     ensures { λ r. ⌜ (1 ≤ r) × (r ≤ left) × (sectorOf p a + r ≤ p .sectors) ⌝ }

@@ -2,29 +2,19 @@
 use Prim.Native.Nat.{ℕ}
 use mathlib.Core.Path.{_≡_}
 use mathlib.Core.List.{List, []}
-use lib.ListN.{getD}
 use Rattle.base.specs.Part.{splice}
 use Rattle.model.specs.declared.record.Drive.{Drive}
 use Rattle.model.specs.declared.record.Controller.{Controller}
-use Rattle.model.specs.declared.record.Answer.{Answer}
 use Rattle.model.specs.declared.record.Outcome.{Outcome}
-use Rattle.model.specs.Record.{blankDrive, bareOutcome, goodOutcome, Effect}
+use Rattle.model.specs.Record.{goodOutcome, Effect}
 use Rattle.control.specs.declared.record.Ending.{Ending}
-
--- The entry of a drive, of the four.
-abbrev pub driveIn : List Drive → (drive : ℕ) → Drive
-driveIn drives drive = getD drives drive blankDrive
 
 -- A record of its two parts; what is left, with the buffer.
 abbrev pub recordOf : (buffer : List ℕ) → (drives : List Drive) → Controller
 recordOf buffer drives = record { buffer = buffer; drives = drives }
 
 abbrev pub leftWith : (buffer : List ℕ) → Ending → Outcome
-leftWith buffer e = record { controller = record { buffer = buffer; drives = e .drives }; answer = e .answer }
-
--- An answer without status, message and counts.
-abbrev pub Bare : Answer → (number : ℕ) → Type 0
-Bare answer number = (c : Controller) → record { controller = c; answer = answer } ≡ bareOutcome number c
+leftWith buffer e = record { controller = recordOf buffer (e .drives); answer = e .answer }
 
 -- Whatever the buffer holds: it stays, and so all is left as defined.
 abbrev pub Leaves : Ending → (drives : List Drive) → (Controller → Outcome) → Type 0

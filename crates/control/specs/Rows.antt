@@ -5,21 +5,21 @@ use lib.Dec.{eqb}
 use Rattle.model.specs.declared.table.Entry.{Entry}
 use Rattle.control.specs.declared.table.Row.{Row}
 
-unfoldable pub has : (bit checks : ℕ) → Bool
-has bit checks = eqb (checks / bit % 2) 1
+unfoldable pub has : (checks bit : ℕ) → Bool
+has checks bit = eqb (checks / bit % 2) 1
 
 unfoldable pub entryFrom : Row → Entry
 entryFrom row = record {
   command = row .command;
-  known = has 1 (row .checks);
-  drive = has 2 (row .checks);
-  parameters = has 4 (row .checks);
-  address = has 8 (row .checks);
-  fill = has 16 (row .checks);
-  interleave = has 32 (row .checks);
-  counted = has 64 (row .checks);
-  settled = has 128 (row .checks);
-  whole = has 256 (row .checks);
+  known = has (row .checks) 1;
+  drive = has (row .checks) 2;
+  parameters = has (row .checks) 4;
+  address = has (row .checks) 8;
+  fill = has (row .checks) 16;
+  interleave = has (row .checks) 32;
+  counted = has (row .checks) 64;
+  settled = has (row .checks) 128;
+  whole = has (row .checks) 256;
   takes = row .takes;
   gives = row .gives;
 }

@@ -9,8 +9,8 @@ ghost use mathlib.Core.Path.{_≡_};
 ghost use Prim.Native.Nat.{_≤_, _<_};
 ghost use lib.ListN.{length};
 ghost use Rattle.base.specs.Part.{part, splice};
-ghost use Rattle.model.specs.Record.{goodOutcome};
-ghost use Rattle.control.specs.Leaves.{driveIn, Leaves, senseOutcome};
+ghost use Rattle.model.specs.Record.{driveIn, goodOutcome};
+ghost use Rattle.control.specs.Leaves.{Leaves, senseOutcome};
 
 // All of src over the front of dst.
 pub fn put_front(dst: &mut [u8], src: &[u8])
@@ -21,7 +21,7 @@ pub fn put_front(dst: &mut [u8], src: &[u8])
     copy_bytes(&mut dst[0..n], src);
 }
 
-// Request Sense: the sense stays as it is.
+// Request Sense: the sense stays as it is. That it has four bytes is what the answer's count rests on.
 pub fn request_sense(drives: [Drive; 4], drive: u8, area: &mut [u8]) -> Ending
     requires { ⌜ (drive < 4) × (4 ≤ length (now area)) ⌝ }
     ensures { λ r. ⌜ Leaves r drives (senseOutcome drive) × (length (driveIn drives drive .sense) ≡ 4) × (now (area .exit) ≡ splice 0 (driveIn drives drive .sense) (now (area .entry))) ⌝ }

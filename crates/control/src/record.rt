@@ -8,11 +8,11 @@ use model::record::Drive;
 ghost use mathlib.Core.Path.{_≡_};
 ghost use Prim.Native.Nat.{_<_};
 ghost use lib.ListN.{set};
-ghost use Rattle.model.specs.Record.{sensed, settingIn, bareOutcome, failedOutcome, goodOutcome};
-ghost use Rattle.control.specs.Leaves.{driveIn, Bare, Leaves};
+ghost use Rattle.model.specs.Record.{driveIn, sensed, settingIn, bareAnswer, bareOutcome, failedOutcome, goodOutcome};
+ghost use Rattle.control.specs.Leaves.{Leaves};
 
-// What a command leaves of the four drives, and its answer. The buffer is lent to those that change it, so that its 512 bytes
-// are not copied from step to step.
+// What a command leaves of the four drives, and its answer. The buffer is lent to those that read or change it, so that its
+// 512 bytes are not copied from step to step.
 pub struct Ending {
     pub drives: [Drive; 4],
     pub answer: Answer,
@@ -56,7 +56,7 @@ pub fn setting_in(entry: Drive, image: usize) -> Setting
 
 // The answer with numbers 1, 2 and 3, and that of Reset.
 pub fn bare_answer(number: u8) -> Answer
-    ensures { λ r. ⌜ Bare r number ⌝ }
+    ensures { λ r. ⌜ r ≡ bareAnswer number ⌝ }
 {
     Answer {
         number: number,

@@ -7,7 +7,8 @@ ghost use Prim.Native.Nat.{_<_};
 ghost use Rattle.model.specs.Table.{entryOf};
 ghost use Rattle.control.specs.Rows.{has, entryFrom};
 
-// The checks that apply, as bits: a row of six bytes is cheap to index.
+// The checks that apply are bits, since a small row is cheap to index.
+
 // else 20h
 const KNOWN: u16 = 1;
 // 04h
@@ -147,7 +148,7 @@ fn row_of(opcode: u8) -> Row
 
 fn has(checks: u16, bit: u16) -> bool
     requires { ⌜ 0 < bit ⌝ }
-    ensures { λ r. ⌜ r ≡ has bit checks ⌝ }
+    ensures { λ r. ⌜ r ≡ has checks bit ⌝ }
 {
     checks / bit % 2 == 1
 }

@@ -12,9 +12,9 @@ use Rattle.model.specs.declared.table.Command.{Command}
 use Rattle.model.specs.declared.table.Command.the-variants.{RequestSense, Read, Write, ReadBuffer, WriteBuffer}
 use Rattle.model.specs.declared.record.Controller.{Controller}
 use Rattle.model.specs.declared.record.Outcome.{Outcome}
-use Rattle.model.specs.Record.{driveAt, withBuffer, Effect, good, failed, goodOutcome, failedOutcome}
+use Rattle.model.specs.Record.{driveIn, driveAt, withBuffer, Effect, good, failed, goodOutcome, failedOutcome}
 use Rattle.model.specs.Commands.{requestSense, onDisk, carryOut}
-use Rattle.control.specs.Leaves.{driveIn, recordOf, senseOutcome, silent, leftNow, leftBy}
+use Rattle.control.specs.Leaves.{recordOf, senseOutcome, silent, leftNow, leftBy}
 use Rattle.commands.specs.Transfers.{ReadLeaves, WriteLeaves}
 use Rattle.engine.specs.Runs.{Carried}
 

@@ -20,17 +20,18 @@ use Rattle.model.specs.declared.table.Entry.{Entry}
 use Rattle.model.specs.declared.table.Command.{Command}
 use Rattle.model.specs.declared.record.Drive.{Drive}
 use Rattle.model.specs.declared.record.Controller.{Controller}
+use Rattle.model.specs.declared.record.Answer.{Answer}
 use Rattle.model.specs.declared.record.Outcome.{Outcome}
 use Rattle.model.specs.declared.verdict.Verdict.{Verdict}
 use Rattle.model.specs.declared.verdict.Verdict.the-variants.{Refused, Faulty, Passed}
 use Rattle.model.specs.Block.{blockOf}
 use Rattle.model.specs.Table.{entryOf}
 use Rattle.model.specs.Checks.{judged, View, presentWith, testsWith, tests, lengthsWith, judge}
-use Rattle.model.specs.Record.{driveAt, settingIn, bareOutcome, failedOutcome, Effect, refused, failed, unless}
+use Rattle.model.specs.Record.{driveIn, driveAt, settingIn, bareAnswer, bareOutcome, failedOutcome, Effect, refused, failed, unless}
 use Rattle.model.specs.Commands.{carryOut}
 use Rattle.model.specs.Engine.{viewOf, obey, imageOf, left, Result, execute, Executed}
 use Rattle.control.specs.Limits.{Legal}
-use Rattle.control.specs.Leaves.{driveIn, Left, leftNow, leftBy}
+use Rattle.control.specs.Leaves.{Left, leftNow, leftBy}
 use Rattle.engine.specs.Runs.{Admitted, Carried, Obeyed, OnImages, resultNow}
 use Rattle.model.proofs.Judged.{fault-in, fault-none}
 
@@ -184,6 +185,11 @@ module _ (b : Block) (given : List ℕ) (c : Controller) (area image0 image1 : L
       (rw (length-none image none, pick-false _ _ _ n₀)) (rw (pick-false _ _ _ n₁))
 
 -- ---- the block
+-- a refusal by its answer
+pub bare-is : (c : Controller) (number : ℕ) (answer : Answer) → answer ≡ bareAnswer number → record { controller = c; answer = answer } ≡ bareOutcome number c
+unfolding bareOutcome
+bare-is c number answer e = rw e refl
+
 module _ (c : Controller) (block given area image0 image1 : List ℕ) where
   pub execute-refused : (outcome : Outcome) → (length block ≡ 6 → ⊥) → outcome ≡ bareOutcome 1 c
       → Executed c block given area image0 image1 (resultNow outcome area image0 image1)

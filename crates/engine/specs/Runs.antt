@@ -12,7 +12,7 @@ use Rattle.model.specs.declared.verdict.Verdict.the-variants.{Passed}
 use Rattle.model.specs.Checks.{judge}
 use Rattle.model.specs.Record.{driveAt}
 use Rattle.model.specs.Commands.{carryOut}
-use Rattle.model.specs.Engine.{viewOf, obey, imageOf, left, Result}
+use Rattle.model.specs.Engine.{viewOf, obey, onImages, Result}
 use Rattle.control.specs.Leaves.{Left, leftBy}
 
 -- The order of checks has let the command pass.
@@ -29,9 +29,7 @@ abbrev pub Obeyed : Block → (given : List ℕ) → Controller → (area image 
 Obeyed b given c area image left = (choices : List ℕ) × (left ≡ leftBy (obey choices b given (length area) c image) area)
 
 abbrev pub OnImages : Block → (given : List ℕ) → Controller → (area image0 image1 : List ℕ) → Result → Type 0
-OnImages b given c area image0 image1 result =
-    (choices : List ℕ)
-    × (result ≡ left (b .drive) (obey choices b given (length area) c (imageOf (b .drive) image0 image1)) area image0 image1)
+OnImages b given c area image0 image1 result = (choices : List ℕ) × (result ≡ onImages choices b given c area image0 image1)
 
 abbrev pub resultNow : Outcome → (area image0 image1 : List ℕ) → Result
 resultNow outcome area image0 image1 = record { outcome = outcome; area = area; image0 = image0; image1 = image1 }

@@ -33,9 +33,9 @@ ghost use Prim.Native.Nat.{_<_};
 ghost use lib.ListN.{length};
 ghost use Rattle.geometry.specs.declared.config.Setting.the-variants.{Valid, Invalid};
 ghost use Rattle.model.specs.Table.{entryOf};
-ghost use Rattle.model.specs.Record.{settingIn};
+ghost use Rattle.model.specs.Record.{driveIn, settingIn};
 ghost use Rattle.model.specs.Engine.{Executed};
-ghost use Rattle.control.specs.Leaves.{driveIn, recordOf, leftWith, leftNow};
+ghost use Rattle.control.specs.Leaves.{recordOf, leftWith, leftNow};
 ghost use Rattle.engine.specs.Runs.{Admitted, Carried, Obeyed, OnImages, resultNow};
 
 // A command whose checks have passed, up to its own, on a drive with parameters.
@@ -125,7 +125,7 @@ fn carry_out(
     }
 }
 
-// A command of six bytes, on the image of the drive that it names.
+// A command of six bytes, on its drive's image.
 fn obey(
     drives: [Drive; 4],
     b: Block,
@@ -158,7 +158,7 @@ fn obey(
     }
 }
 
-// The same on the images of both drives.
+// A command on the image of the drive that it names.
 fn on_images(
     drives: [Drive; 4],
     b: Block,

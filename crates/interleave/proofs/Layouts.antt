@@ -22,8 +22,8 @@ round-end : (p n : ℕ) → p + 1 ≡ n → (p + 1) % n ≡ 0
 round-end p n e = ap (λ (k : ℕ). k % n) e ∙ mod-self n
 
 -- a number counted round is a slot's
-pub round-lt : (x n r : ℕ) → 0 < n → r ≡ x % n → r < n
-round-lt x n r h e = rw e (mod-lt x h)
+pub wrapped-lt : (x n r : ℕ) → 0 < n → r ≡ x % n → r < n
+wrapped-lt x n r h e = rw e (mod-lt x h)
 
 -- j is reached from p in i steps, upward and round
 Reached : ℕ → ℕ → ℕ → ℕ → Type 0

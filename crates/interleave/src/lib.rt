@@ -5,8 +5,8 @@ ghost use mathlib.Core.List.{_++_};
 ghost use lib.ListN.{length, replicate};
 ghost use Rattle.interleave.specs.Layout.{emptyFrom, layoutOf};
 
-// A slot's number, past the last one counted round. A quotient would cost more than the rest of the loop.
-fn round(slot: usize, n: usize) -> usize
+// slot mod n, without a division.
+fn wrapped(slot: usize, n: usize) -> usize
     requires { ⌜ (0 < n) × (slot < n + n) ⌝ }
     ensures { λ r. ⌜ r ≡ slot % n ⌝ }
 {
@@ -27,7 +27,7 @@ fn next_empty(map: &[u8], n: usize, from: usize) -> usize
         if map[slot] as usize == n {
             return slot;
         }
-        slot = round(slot + 1, n);
+        slot = wrapped(slot + 1, n);
         left -= 1;
     }
     slot
@@ -44,7 +44,7 @@ pub fn layout(n: usize, f: usize) -> [u8; 32]
     let mut slot = 0;
     let mut s = 1;
     while s < n {
-        slot = next_empty(&map, n, round(slot + f, n));
+        slot = next_empty(&map, n, wrapped(slot + f, n));
         map[slot] = s as u8;
         s += 1;
     }

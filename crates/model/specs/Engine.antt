@@ -50,12 +50,16 @@ left drive effect area image0 image1 = record {
   image1 = pick (eqb drive 1) (effect .image) image1;
 }
 
+-- A command on the image of the drive that it names.
+abbrev pub onImages : (choices : List ℕ) → Block → (given : List ℕ) → Controller → (area image0 image1 : List ℕ) → Result
+onImages choices b given c area image0 image1 =
+    left (b .drive) (obey choices b given (length area) c (imageOf (b .drive) image0 image1)) area image0 image1
+
 -- A block that is not six bytes: number 1, all unchanged.
 unfoldable pub execute : (choices : List ℕ) → Controller → (block given area image0 image1 : List ℕ) → Result
 execute choices c block given area image0 image1 =
     pick (eqb (length block) 6)
-    (left (blockOf block .drive)
-    (obey choices (blockOf block) given (length area) c (imageOf (blockOf block .drive) image0 image1)) area image0 image1)
+    (onImages choices (blockOf block) given c area image0 image1)
     (record { outcome = bareOutcome 1 c; area = area; image0 = image0; image1 = image1 })
 
 -- ---- Reset: the buffer and all sixteen sense bytes are zero. A valid label comes into force, not pending; otherwise the

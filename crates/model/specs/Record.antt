@@ -11,6 +11,7 @@ use Rattle.base.specs.Pick.{pick}
 use Rattle.model.specs.declared.block.Block.{Block}
 use Rattle.model.specs.declared.record.Drive.{Drive}
 use Rattle.model.specs.declared.record.Controller.{Controller}
+use Rattle.model.specs.declared.record.Answer.{Answer}
 use Rattle.model.specs.declared.record.Outcome.{Outcome}
 use Rattle.model.specs.declared.verdict.Verdict.{Verdict}
 use Rattle.model.specs.declared.verdict.Verdict.the-variants.{Refused, Faulty, Passed}
@@ -20,8 +21,12 @@ use Rattle.model.specs.Sense.{senseOf}
 unfoldable pub blankDrive : Drive
 blankDrive = record { sense = replicate 4 0; config = replicate 10 0; known = false; pending = false }
 
+-- one of the four drives
+abbrev pub driveIn : List Drive → (drive : ℕ) → Drive
+driveIn drives drive = getD drives drive blankDrive
+
 unfoldable pub driveAt : Controller → (drive : ℕ) → Drive
-driveAt c drive = getD (c .drives) drive blankDrive
+driveAt c drive = driveIn (c .drives) drive
 
 unfoldable pub withDrive : (drive : ℕ) → Drive → Controller → Controller
 withDrive drive entry c = record { buffer = c .buffer; drives = set (c .drives) drive entry }
@@ -41,8 +46,11 @@ settingIn entry image = pick (entry .known) (settingOf (entry .config) image) In
 
 -- ---- How a call ends
 -- Status, message and counts 0: with numbers 1, 2 and 3, and with number 0 the answer to Reset.
+abbrev pub bareAnswer : (number : ℕ) → Answer
+bareAnswer number = record { number = number; status = 0; message = 0; sectors = 0; bytes = 0 }
+
 unfoldable pub bareOutcome : (number : ℕ) → Controller → Outcome
-bareOutcome number c = record { controller = c; answer = record { number = number; status = 0; message = 0; sectors = 0; bytes = 0 } }
+bareOutcome number c = record { controller = c; answer = bareAnswer number }
 
 -- A code arises: status 2 + 32 × drive; sense has the code.
 unfoldable pub failedOutcome : (drive code : ℕ) → Lba → (sectors bytes : ℕ) → Controller → Outcome

@@ -26,7 +26,8 @@ use Rattle.track.specs.Id.{idBytes, partnerOf, idFor}
 use Rattle.track.specs.Image.{trackBytes, slotId}
 use Rattle.track.specs.Format.{withSector}
 use Rattle.track.specs.Find.{whereOf}
-use Rattle.track.specs.Check.{numberOf, idIs, idsAre, homeState, checkedOn, checkCode}
+use Rattle.track.specs.Number.{numberOf}
+use Rattle.track.specs.Check.{idIs, idsAre, homeState, checkedOn, checkCode}
 use Rattle.track.proofs.Ids.{id-length}
 use Rattle.track.proofs.Images.{track-lent}
 use Rattle.track.proofs.Finds.{id-lent, slot-end, place-more}

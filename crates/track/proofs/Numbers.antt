@@ -16,7 +16,7 @@ use Rattle.base.proofs.Sames.{same-self, same-eq}
 use Rattle.track.specs.declared.id.Id.{Id}
 use Rattle.track.specs.Id.{idBytes}
 use Rattle.track.specs.Format.{withSector}
-use Rattle.track.specs.Check.{numberFrom, numberOf}
+use Rattle.track.specs.Number.{numberFrom, numberOf}
 
 -- ---- lists of bytes: each number is below 256
 pub data Low : List ℕ → Type 0 where

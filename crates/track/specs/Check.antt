@@ -1,7 +1,7 @@
 -- Document 01, Check Track: a track's ID bytes held against those that a format writes.
-use Prim.Native.Nat.{ℕ, _+_, _*_}
+use Prim.Native.Nat.{ℕ}
 use mathlib.Core.Bool.{Bool}
-use mathlib.Core.List.{List, [], _∷_}
+use mathlib.Core.List.{List}
 use lib.ListN.{length, getD}
 use lib.Dec.{eqb}
 use Rattle.base.specs.Pick.{pick}
@@ -18,14 +18,6 @@ use Rattle.track.specs.Id.{idBytes, idFor}
 use Rattle.track.specs.Image.{trackBytes, slotId}
 use Rattle.track.specs.Format.{withSector}
 use Rattle.track.specs.Find.{whereOf}
-
--- Bytes as a number, high byte first.
-unfoldable pub numberFrom : (high : ℕ) → (bytes : List ℕ) → ℕ
-numberFrom high [] = high
-numberFrom high (b ∷ bytes) = numberFrom (high * 256 + b) bytes
-
-unfoldable pub numberOf : (bytes : List ℕ) → ℕ
-numberOf bytes = numberFrom 0 bytes
 
 -- Slot k has the 8 ID bytes that a format writes there.
 unfoldable pub idIs : Params → Id → (map bytes : List ℕ) → (k : ℕ) → Bool

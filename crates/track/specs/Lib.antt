@@ -3,5 +3,6 @@ pub mod Image
 pub mod Format
 pub mod Find
 pub mod Run
+pub mod Number
 pub mod Check
 pub mod Pair

@@ -13,9 +13,10 @@ ghost use lib.ListN.{length};
 ghost use Rattle.geometry.specs.Params.{Within, trackCount, trackSize};
 ghost use Rattle.track.specs.Id.{idBytes};
 ghost use Rattle.track.specs.Image.{Fits};
-ghost use Rattle.track.specs.Check.{numberOf, idsAre, homeState, checkCode};
+ghost use Rattle.track.specs.Number.{numberOf};
+ghost use Rattle.track.specs.Check.{idsAre, homeState, checkCode};
 
-// Eight bytes as a number, high byte first. LLVM makes it one load.
+// Eight bytes as a number, high byte first: cheaper to compare than byte after byte.
 fn number_of(bytes: &[u8]) -> u64
     requires { ⌜ length (now bytes) ≡ 8 ⌝ }
     ensures { λ r. ⌜ r ≡ numberOf (now (bytes .entry)) ⌝ }

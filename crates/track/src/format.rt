@@ -15,7 +15,7 @@ ghost use Rattle.track.specs.Id.{idBytes, partnerOf};
 ghost use Rattle.track.specs.Image.{Fits, withTrack};
 ghost use Rattle.track.specs.Format.{withSector, slotsMade, formatted, soundFrom};
 
-pub fn with_sector(id: Id, s: u8) -> Id
+fn with_sector(id: Id, s: u8) -> Id
     ensures { λ r. ⌜ r ≡ withSector id s ⌝ }
 {
     let mut other = id;

@@ -29,7 +29,7 @@ pub struct Id {
     pub partner: Track,
 }
 
-pub fn flag_of(state: State) -> u8
+fn flag_of(state: State) -> u8
     ensures { λ r. ⌜ r ≡ flagOf state ⌝ }
 {
     match state {
@@ -40,7 +40,7 @@ pub fn flag_of(state: State) -> u8
     }
 }
 
-pub fn partner_of(state: State) -> Track
+fn partner_of(state: State) -> Track
     ensures { λ r. ⌜ r ≡ partnerOf state ⌝ }
 {
     match state {
@@ -89,7 +89,7 @@ fn two_bytes(high: u8, low: u8) -> u16
 }
 
 // Reads the 8 ID bytes of a slot.
-pub fn read_id(slot: &[u8]) -> Id
+fn read_id(slot: &[u8]) -> Id
     requires { ⌜ 8 ≤ length (now slot) ⌝ }
     ensures { λ r. ⌜ r ≡ idIn (now (slot .entry)) ⌝ }
 {

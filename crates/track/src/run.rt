@@ -1,4 +1,4 @@
-// Sectors of one track that follow each other, read and written. Each slot's ID is looked at once.
+// Sectors of one track that follow each other, read and written. A run looks at each slot's ID at most once.
 use crate::id::ID_MARK;
 use crate::sector::slot_at;
 use crate::sector::slot_data;

@@ -3,7 +3,7 @@ use native.Mathlib.Omega.{arith}
 use Prim.Native.Nat.{_-_}
 use mathlib.Core.Path.{ap, _∙_}
 use Rattle.interleave.specs.Layout.{emptyFrom}
-use Rattle.interleave.proofs.Layouts.{round-lt, Filled, filled-first, filled-next, filled-last}
+use Rattle.interleave.proofs.Layouts.{wrapped-lt, Filled, filled-first, filled-next, filled-last}
 use Rattle.interleave.proofs.layout.Statement.{statement}
 use Rattle.interleave.proofs.layout.Tie as tie
 
@@ -25,14 +25,14 @@ loop-holds c = filled-first _ _ (omega arith) (omega arith)
 slice-aggregate-next-empty : tie.Need-slice-aggregate-next-empty Inv-loop μ-loop
 slice-aggregate-next-empty c = omega arith
 
-add-round : tie.Need-add-round Inv-loop μ-loop
-add-round c = search needs
+add-wrapped : tie.Need-add-wrapped Inv-loop μ-loop
+add-wrapped c = search needs
 
-round-requires : tie.Need-round-requires Inv-loop μ-loop
-round-requires c κs = search needs
+wrapped-requires : tie.Need-wrapped-requires Inv-loop μ-loop
+wrapped-requires c κs = search needs
 
 next-empty-requires : tie.Need-next-empty-requires Inv-loop μ-loop
-next-empty-requires c κs = (omega arith, round-lt _ _ _ (omega arith) (c .round .ensures), omega arith)
+next-empty-requires c κs = (omega arith, wrapped-lt _ _ _ (omega arith) (c .wrapped .ensures), omega arith)
 
 cast-map : tie.Need-cast-map Inv-loop μ-loop
 cast-map c = search needs
@@ -49,7 +49,7 @@ loop-less c = search needs
 loop-again : tie.Need-loop-again Inv-loop μ-loop
 loop-again c =
     let l = c .before .before .before .before .loop in
-    filled-next _ _ (l .s) (l .map) (l .slot) _ (omega arith) (omega arith) (l .inv) (c .next-empty .ensures .0 ∙ ap (emptyFrom _ _ _) (c .before .round .ensures))
+    filled-next _ _ (l .s) (l .map) (l .slot) _ (omega arith) (omega arith) (l .inv) (c .next-empty .ensures .0 ∙ ap (emptyFrom _ _ _) (c .before .wrapped .ensures))
 
 returns : tie.Need-returns Inv-loop μ-loop
 returns c = filled-last _ _ _ _ _ (c .loop-test .left) (c .before .loop .inv)
@@ -64,8 +64,8 @@ layout-spec =
     array-write-map
     loop-holds
     slice-aggregate-next-empty
-    add-round
-    round-requires
+    add-wrapped
+    wrapped-requires
     next-empty-requires
     cast-map
     array-write-map-2

@@ -3,7 +3,7 @@ use native.Mathlib.Omega.{arith}
 use Prim.Native.Nat.{_≤_, _<_}
 use mathlib.Core.Path.{_≡_, sym, _∙_}
 use Rattle.interleave.specs.Layout.{emptyFrom}
-use Rattle.interleave.proofs.Layouts.{round-lt, look-here, look-on, look-none}
+use Rattle.interleave.proofs.Layouts.{wrapped-lt, look-here, look-on, look-none}
 use Rattle.interleave.proofs.next_empty.Statement.{statement}
 use Rattle.interleave.proofs.next_empty.Tie as tie
 
@@ -27,11 +27,11 @@ returns c =
     let l = c .before .before .before .loop in
     (sym (look-here _ _ (l .slot) (l .left) (c .before .before .loop-test .taken) (c .if1 .taken)) ∙ l .inv .2, l .inv .0)
 
-add-round : tie.Need-add-round Inv-loop μ-loop
-add-round c = search needs
+add-wrapped : tie.Need-add-wrapped Inv-loop μ-loop
+add-wrapped c = search needs
 
-round-requires : tie.Need-round-requires Inv-loop μ-loop
-round-requires c κs = search needs
+wrapped-requires : tie.Need-wrapped-requires Inv-loop μ-loop
+wrapped-requires c κs = search needs
 
 sub-left : tie.Need-sub-left Inv-loop μ-loop
 sub-left c = search needs
@@ -42,9 +42,9 @@ loop-less c = search needs
 loop-again : tie.Need-loop-again Inv-loop μ-loop
 loop-again c =
     let l = c .before .before .before .before .loop in (
-      round-lt _ _ _ (omega arith) (c .round .ensures),
+      wrapped-lt _ _ _ (omega arith) (c .wrapped .ensures),
       omega arith,
-      sym (look-on _ _ (l .slot) _ (l .left) (c .before .before .before .loop-test .taken) (c .round .ensures) (c .before .if1 .left)) ∙ l .inv .2,
+      sym (look-on _ _ (l .slot) _ (l .left) (c .before .before .before .loop-test .taken) (c .wrapped .ensures) (c .before .if1 .left)) ∙ l .inv .2,
     )
 
 returns-2 : tie.Need-returns-2 Inv-loop μ-loop
@@ -62,8 +62,8 @@ next-empty-spec =
     shared-slice-read-if1
     cast-if1
     returns
-    add-round
-    round-requires
+    add-wrapped
+    wrapped-requires
     sub-left
     loop-less
     loop-again

@@ -1,3 +1,5 @@
+use Rattle.model.specs.Record.{bareOutcome}
+use mathlib.Core.Path.{refl}
 use borrow.Author.Needs.{needs}
 use Rattle.control.proofs.record.refused.Statement.{statement}
 use Rattle.control.proofs.record.refused.Tie as tie
@@ -11,7 +13,8 @@ bare-answer-requires c κs = search needs
 
 -- src/record.rt:70:1
 returns : tie.Need-returns
-returns c buffer = c .bare-answer .ensures _
+unfolding bareOutcome
+returns c buffer = rw (c .bare-answer .ensures) refl
 
 pub refused-spec : {M : Type 1} → statement M
 refused-spec = tie.close (tie.spec bare-answer-requires returns)

@@ -1,6 +1,5 @@
 use Rattle.model.specs.Engine.{resetOf}
 use Rattle.model.specs.Record.{bareOutcome}
-use mathlib.Core.Path.{ap, _∙_}
 use borrow.Author.Needs.{needs}
 use Rattle.engine.proofs.reset.reset.Statement.{statement}
 use Rattle.engine.proofs.reset.reset.Tie as tie
@@ -19,8 +18,8 @@ bare-answer-requires c κs = search needs
 
 -- src/reset.rt:52:1
 returns : tie.Need-returns
-unfolding resetOf
-returns c = c .bare-answer .ensures _ ∙ ap (bareOutcome 0) (c .before .fresh .ensures)
+unfolding resetOf bareOutcome
+returns c = rw (c .bare-answer .ensures, c .before .fresh .ensures)
 
 pub reset-spec : {M : Type 1} → statement M
 reset-spec = tie.close (tie.spec fresh-requires bare-answer-requires returns)

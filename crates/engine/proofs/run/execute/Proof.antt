@@ -1,6 +1,6 @@
 use mathlib.Core.Path.{_≡_}
 use lib.ListN.{length}
-use Rattle.engine.proofs.Executes.{block-fields, execute-refused, execute-six}
+use Rattle.engine.proofs.Executes.{bare-is, block-fields, execute-refused, execute-six}
 use native.Mathlib.Omega.{arith}
 use borrow.Author.Needs.{needs}
 use Rattle.engine.proofs.run.execute.Statement.{statement}
@@ -17,7 +17,7 @@ bare-answer-requires c κs = search needs
 
 -- src/run.rt:194:9
 returns : tie.Need-returns
-returns c = execute-refused _ _ _ _ _ _ _ (c .before .if1 .taken) (c .bare-answer .ensures _)
+returns c = execute-refused _ _ _ _ _ _ _ (c .before .if1 .taken) (bare-is _ _ _ (c .bare-answer .ensures))
 
 -- src/run.rt:204:9
 decode-requires : tie.Need-decode-requires

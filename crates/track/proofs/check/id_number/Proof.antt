@@ -1,6 +1,6 @@
 use mathlib.Core.Path.{ap, _∙_}
 use mathlib.Core.List.{append-nil}
-use Rattle.track.specs.Check.{numberOf}
+use Rattle.track.specs.Number.{numberOf}
 use borrow.Author.Needs.{needs}
 use Rattle.track.proofs.check.id_number.Statement.{statement}
 use Rattle.track.proofs.check.id_number.Tie as tie

@@ -1,8 +1,8 @@
 use mathlib.Core.Path.{sym, _∙_}
 use native.Mathlib.Nat.{mod-eq-of-lt, mod-eq-sub-mod}
 use native.Mathlib.Omega.{arith}
-use Rattle.interleave.proofs.round.Statement.{statement}
-use Rattle.interleave.proofs.round.Tie as tie
+use Rattle.interleave.proofs.wrapped.Statement.{statement}
+use Rattle.interleave.proofs.wrapped.Tie as tie
 
 returns : tie.Need-returns
 returns c = sym (mod-eq-of-lt (c .if1 .taken))
@@ -10,5 +10,5 @@ returns c = sym (mod-eq-of-lt (c .if1 .taken))
 returns-2 : tie.Need-returns-2
 returns-2 c = sym (mod-eq-sub-mod (c .if1 .left) ∙ mod-eq-of-lt (omega arith))
 
-pub round-spec : {M : Type 1} → statement M
-round-spec = tie.close (tie.spec returns returns-2)
+pub wrapped-spec : {M : Type 1} → statement M
+wrapped-spec = tie.close (tie.spec returns returns-2)
