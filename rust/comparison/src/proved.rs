@@ -13,15 +13,18 @@ impl Proved {
     }
 }
 
+#[inline]
 fn answer(a: lanthewg::Answer) -> plain::Answer {
     plain::Answer { number: a.number, status: a.status, message: a.message, sectors: a.sectors, bytes: a.bytes }
 }
 
 impl Engine for Proved {
+    #[inline]
     fn reset(&mut self, image0: &[u8], image1: &[u8]) -> plain::Answer {
         answer(self.0.reset(image0, image1))
     }
 
+    #[inline]
     fn execute(
         &mut self,
         block: &[u8],

@@ -70,6 +70,7 @@ extern "C" {
 
 impl Controller {
     /// A controller as it is after Reset: a valid label comes into force. An image under 16 bytes is an absent drive.
+    #[inline]
     pub fn fresh(image0: &[u8], image1: &[u8]) -> Controller {
         let blank = Drive { sense: [0; 4], config: [0; 10], known: false, pending: false };
         let mut record = Controller { buffer: [0; 512], drives: [blank; 4] };
@@ -78,12 +79,14 @@ impl Controller {
         record
     }
 
+    #[inline]
     pub fn reset(&mut self, image0: &[u8], image1: &[u8]) -> Answer {
         // SAFETY: as above, and the record is lent to this call alone.
         unsafe { lanthewg_reset(self, image0.as_ptr(), image0.len(), image1.as_ptr(), image1.len()) }
     }
 
     /// A command: its block, the data given with it, and the data area for what it hands over.
+    #[inline]
     pub fn execute(
         &mut self,
         block: &[u8],

@@ -10,9 +10,9 @@ use comparison::plain;
 use comparison::proved::Proved;
 
 /// Rounds of a measurement; the fastest counts, since noise only adds.
-const ROUNDS: usize = 7;
+const ROUNDS: usize = 16;
 /// How long a round lasts at least.
-const ROUND_SECONDS: f64 = 0.06;
+const ROUND_SECONDS: f64 = 0.03;
 
 struct Disk {
     name: &'static str,
@@ -28,23 +28,31 @@ const DISKS: [Disk; 2] = [
     Disk { name: "largest", config: [4, 0, 7, 0, 2, 0, 0, 0, 0, 11], length: 63_365_136, sectors: 121_856, size: 512, tracks: 7_168 },
 ];
 
-/// Nanoseconds a call: the fastest of some rounds.
-fn nanoseconds(mut call: impl FnMut()) -> f64 {
-    let mut calls = 1u32;
-    let mut best = f64::INFINITY;
-    let mut round = 0;
-    while round < ROUNDS {
-        let start = Instant::now();
-        for _ in 0..calls {
-            call();
+/// What is measured: it makes as many calls as it is told, on the memory lent.
+type Run<'a> = Box<dyn FnMut(&mut Memory, u32) + 'a>;
+
+fn seconds(run: &mut Run, memory: &mut Memory, calls: u32) -> f64 {
+    let start = Instant::now();
+    run(memory, calls);
+    start.elapsed().as_secs_f64()
+}
+
+/// Nanoseconds a call of each run: the fastest of some rounds. The runs take turns on the same memory, so that a machine that
+/// slows down, or a place in memory that is slow, slows them all; every other round goes backward, so that none profits from
+/// what another has left in the cache.
+fn nanoseconds(mut runs: Vec<Run>, memory: &mut Memory) -> Vec<f64> {
+    let mut calls = vec![1u32; runs.len()];
+    for (run, calls) in runs.iter_mut().zip(&mut calls) {
+        while seconds(run, memory, *calls) < ROUND_SECONDS {
+            *calls = calls.saturating_mul(2);
         }
-        let seconds = start.elapsed().as_secs_f64();
-        if seconds < ROUND_SECONDS {
-            calls = calls.saturating_mul(2);
-            continue;
+    }
+    let mut best = vec![f64::INFINITY; runs.len()];
+    for round in 0..ROUNDS {
+        for turn in 0..runs.len() {
+            let i = if round % 2 == 0 { turn } else { runs.len() - 1 - turn };
+            best[i] = best[i].min(seconds(&mut runs[i], memory, calls[i]) * 1e9 / f64::from(calls[i]));
         }
-        best = best.min(seconds * 1e9 / f64::from(calls));
-        round += 1;
     }
     best
 }
@@ -53,31 +61,21 @@ fn block(opcode: u8, address: u32, extra: u8) -> [u8; 6] {
     [opcode, (address >> 16) as u8, (address >> 8) as u8, address as u8, extra, 0]
 }
 
-/// An engine with a formatted disk, and what its calls are lent.
-struct Bench<E> {
-    engine: E,
+/// What a call is lent, and the addresses to come.
+struct Memory {
     image: Vec<u8>,
+    /// As long as the image: for copies and fills, which would spoil it.
+    spare: Vec<u8>,
     given: Vec<u8>,
     area: Vec<u8>,
     next: u32,
 }
 
-impl<E: Engine> Bench<E> {
-    fn new(engine: E, disk: &Disk) -> Bench<E> {
-        let mut bench =
-            Bench { engine, image: vec![0; disk.length], given: vec![7; 256 * disk.size], area: vec![0; 256 * disk.size], next: 1 };
-        let mut config = [0; 6];
-        config[0] = 0x11;
-        bench.given[..10].copy_from_slice(&disk.config);
-        bench.run(&config);
-        bench.run(&block(0x04, 0, 5));
-        bench
-    }
-
-    fn run(&mut self, block: &[u8]) {
-        let answer = self.engine.execute(block, &self.given, &mut self.area, &mut self.image, &mut []);
-        assert_eq!((answer.number, answer.status), (0, 0), "{block:02X?}");
-        black_box(answer);
+impl Memory {
+    fn new(disk: &Disk) -> Memory {
+        let mut given = vec![7; 256 * disk.size];
+        given[..10].copy_from_slice(&disk.config);
+        Memory { image: vec![0; disk.length], spare: vec![1; disk.length], given, area: vec![0; 256 * disk.size], next: 1 }
     }
 
     /// Another address, so that `count` sectors fit behind it.
@@ -85,57 +83,123 @@ impl<E: Engine> Bench<E> {
         self.next = self.next.wrapping_mul(1_664_525).wrapping_add(1_013_904_223);
         (self.next >> 8) % (disk.sectors - count + 1)
     }
+
+    fn command(&mut self, disk: &Disk, row: Row) -> [u8; 6] {
+        let many = disk.many();
+        match row {
+            Row::TestReady => block(0x00, 0, 0),
+            Row::ReadOne => block(0x08, self.address(disk, 1), 1),
+            Row::WriteOne => block(0x0A, self.address(disk, 1), 1),
+            Row::ReadMany => block(0x08, self.address(disk, many), many as u8),
+            Row::WriteMany => block(0x0A, self.address(disk, many), many as u8),
+            Row::CheckTrack => block(0x05, self.address(disk, 1), 5),
+            Row::FormatDrive => block(0x04, 0, 5),
+        }
+    }
 }
 
-const ROWS: [&str; 7] = ["Test Ready", "Read 1", "Write 1", "Read many", "Write many", "Check Track", "Format Drive"];
+fn execute(engine: &mut impl Engine, memory: &mut Memory, block: &[u8]) {
+    let answer = engine.execute(block, &memory.given, &mut memory.area, &mut memory.image, &mut []);
+    assert_eq!((answer.number, answer.status), (0, 0), "{block:02X?}");
+    black_box(answer);
+}
 
-fn engine_row<E: Engine>(bench: &mut Bench<E>, disk: &Disk, row: &str) -> f64 {
-    let many = disk.sectors.min(256);
-    nanoseconds(|| {
-        let command = match row {
-            "Test Ready" => block(0x00, 0, 0),
-            "Read 1" => block(0x08, bench.address(disk, 1), 1),
-            "Write 1" => block(0x0A, bench.address(disk, 1), 1),
-            "Read many" => block(0x08, bench.address(disk, many), many as u8),
-            "Write many" => block(0x0A, bench.address(disk, many), many as u8),
-            "Check Track" => block(0x05, bench.address(disk, 1), 5),
-            _ => block(0x04, 0, 5),
-        };
-        bench.run(&command);
+/// Initialize and Format Drive: the disk is in use.
+fn begin(engine: &mut impl Engine, memory: &mut Memory) {
+    execute(engine, memory, &block(0x11, 0, 0));
+    execute(engine, memory, &block(0x04, 0, 5));
+}
+
+fn commands<'a>(engine: &'a mut impl Engine, disk: &'a Disk, row: Row) -> Run<'a> {
+    Box::new(move |memory, calls| {
+        for _ in 0..calls {
+            let command = memory.command(disk, row);
+            execute(engine, memory, &command);
+        }
     })
 }
 
-/// A copy of the bytes that a transfer moves, or a fill of those that a format writes.
-fn memory_row<E: Engine>(bench: &mut Bench<E>, disk: &Disk, row: &str) -> Option<f64> {
-    let many = disk.sectors.min(256);
-    let count = match row {
-        "Read 1" | "Write 1" => 1,
-        "Read many" | "Write many" => many,
-        "Format Drive" => return Some(nanoseconds(|| black_box(&mut bench.image).fill(0x6C))),
-        _ => return None,
+/// A copy of the bytes that a transfer moves, from or to the image, or a fill of those that a format writes.
+fn bytes(disk: &Disk, row: Row) -> Option<Run<'_>> {
+    let (count, writes) = match row {
+        Row::ReadOne => (1, false),
+        Row::WriteOne => (1, true),
+        Row::ReadMany => (disk.many(), false),
+        Row::WriteMany => (disk.many(), true),
+        Row::FormatDrive => {
+            return Some(Box::new(|memory, calls| {
+                for _ in 0..calls {
+                    black_box(&mut memory.spare).fill(0x6C);
+                }
+            }))
+        }
+        Row::TestReady | Row::CheckTrack => return None,
     };
-    Some(nanoseconds(|| {
-        let bytes = count as usize * disk.size;
-        let at = bench.address(disk, count) as usize * disk.size;
-        bench.area[..bytes].copy_from_slice(&bench.image[at..at + bytes]);
-        black_box(&mut bench.area);
+    let bytes = count as usize * disk.size;
+    Some(Box::new(move |memory, calls| {
+        for _ in 0..calls {
+            let at = memory.address(disk, count) as usize * disk.size;
+            let stretch = &mut black_box(&mut memory.spare)[at..at + bytes];
+            if writes {
+                stretch.copy_from_slice(&memory.given[..bytes]);
+            } else {
+                black_box(&mut memory.area)[..bytes].copy_from_slice(stretch);
+            }
+        }
     }))
 }
 
+impl Disk {
+    /// The sectors of a long transfer.
+    fn many(&self) -> u32 {
+        self.sectors.min(256)
+    }
+}
+
+#[derive(Clone, Copy)]
+enum Row {
+    TestReady,
+    ReadOne,
+    WriteOne,
+    ReadMany,
+    WriteMany,
+    CheckTrack,
+    FormatDrive,
+}
+
+const ROWS: [Row; 7] =
+    [Row::TestReady, Row::ReadOne, Row::WriteOne, Row::ReadMany, Row::WriteMany, Row::CheckTrack, Row::FormatDrive];
+
+fn title(row: Row, disk: &Disk) -> String {
+    match row {
+        Row::TestReady => String::from("Test Ready"),
+        Row::ReadOne => String::from("Read 1"),
+        Row::WriteOne => String::from("Write 1"),
+        Row::ReadMany => format!("Read {}", disk.many()),
+        Row::WriteMany => format!("Write {}", disk.many()),
+        Row::CheckTrack => String::from("Check Track"),
+        Row::FormatDrive => format!("Format {} tracks", disk.tracks),
+    }
+}
+
 fn main() {
-    println!("{:8} {:13} {:>14} {:>14} {:>14} {:>9} {:>9}", "disk", "command", "proved ns", "plain ns", "memory ns", "/ plain", "/ memory");
-    for disk in &DISKS {
-        let fresh = plain::Controller::fresh(&[], &[]);
-        let mut proved = Bench::new(Proved::from_record(&fresh), disk);
-        let mut plain = Bench::new(fresh.clone(), disk);
-        let mut memory = Bench::new(fresh, disk);
+    println!("| disk | command | proved ns | plain ns | memory ns | / plain | / memory |");
+    println!("|---|---|---|---|---|---|---|");
+    // both at the start: what is freed and taken again would lie elsewhere
+    let mut memories = DISKS.each_ref().map(Memory::new);
+    for (disk, memory) in DISKS.iter().zip(&mut memories) {
+        let mut plain = plain::Controller::fresh(&[], &[]);
+        let mut proved = Proved::from_record(&plain);
+        begin(&mut plain, memory);
+        begin(&mut proved, memory);
         for row in ROWS {
-            let ours = engine_row(&mut proved, disk, row);
-            let theirs = engine_row(&mut plain, disk, row);
-            let moved = memory_row(&mut memory, disk, row);
-            let (cost, share) = moved.map_or((String::from("-"), String::from("-")), |m| (format!("{m:.0}"), format!("{:.2}", ours / m)));
-            println!("{:8} {:13} {ours:14.0} {theirs:14.0} {cost:>14} {:9.2} {share:>9}", disk.name, row, ours / theirs);
+            let engines = nanoseconds(vec![commands(&mut proved, disk, row), commands(&mut plain, disk, row)], memory);
+            let (ours, theirs) = (engines[0], engines[1]);
+            let (cost, share) = match bytes(disk, row).map(|run| nanoseconds(vec![run], memory)[0]) {
+                Some(moved) => (format!("{moved:.0}"), format!("{:.2}", ours / moved)),
+                None => (String::new(), String::new()),
+            };
+            println!("| {} | {} | {ours:.0} | {theirs:.0} | {cost} | {:.2} | {share} |", disk.name, title(row, disk), ours / theirs);
         }
     }
-    println!("{} tracks of the largest disk are formatted in each Format Drive", DISKS[1].tracks);
 }
