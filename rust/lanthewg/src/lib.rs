@@ -19,6 +19,11 @@
 //! assert_eq!(area[..4], [0x0A, 0, 0, 0]);
 //! ```
 
+/// The examples of the repository's README are run as tests.
+#[cfg(doctest)]
+#[doc = include_str!("../../../README.md")]
+struct Readme;
+
 /// What the card keeps of a drive. Its configuration is in force where it is known.
 #[repr(C)]
 #[derive(Clone, Copy, Debug, PartialEq, Eq)]
