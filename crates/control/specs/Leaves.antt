@@ -28,7 +28,7 @@ senseOutcome drive c = record { controller = c; answer = goodOutcome drive 0 4 c
 abbrev pub silent : Outcome → (image : List ℕ) → Effect
 silent outcome image = record { outcome = outcome; handed = []; image = image }
 
--- The same with the image after a command that hands nothing over.
+-- As `Leaves`, with the image after a command that hands nothing over.
 abbrev pub Ends : Ending → (drives : List Drive) → (image : List ℕ) → (Controller → Effect) → Type 0
 Ends e drives image effect = (buffer : List ℕ) → silent (leftWith buffer e) image ≡ effect (recordOf buffer drives)
 
