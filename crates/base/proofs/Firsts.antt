@@ -1,6 +1,6 @@
 -- Laws of the first number that passes a test.
 use mathlib.Core.Path.{_≡_, refl, sym, ap, _∙_}
-use mathlib.Core.Bool.{Bool, true, false, not, true≢false, false≢true}
+use mathlib.Core.Bool.{Bool, true, false, not, true≢false}
 use mathlib.Core.Option.{Option, none, some}
 use Prim.Native.Nat.{ℕ, zero, suc, _+_, _-_, _≤_, _<_}
 use native.Mathlib.Omega.{arith}
@@ -9,6 +9,7 @@ use native.Mathlib.Numerals.{add-one}
 use native.Mathlib.Decide.{ℕ-discrete}
 use Rattle.base.specs.Pick.{pick}
 use Rattle.base.specs.First.{firstFrom, firstBelow, isSome, someBelow, everyBelow}
+use Rattle.base.proofs.Bools.{not-false, not-true}
 
 -- ---- a loop that looks for the first: what is left, looked at from k on, gives what the whole gives
 pub record Sought (test : ℕ → Bool) (n k : ℕ) : Type 0 where
@@ -89,14 +90,6 @@ found-some : (o : Option ℕ) → isSome o ≡ false → o ≡ none
 unfolding isSome
 found-some none e = refl
 found-some (some k) e = absurd (true≢false e)
-
-not-false : (b : Bool) → not b ≡ false → b ≡ true
-not-false true e = refl
-not-false false e = absurd (true≢false e)
-
-not-true : (b : Bool) → not b ≡ true → b ≡ false
-not-true true e = absurd (false≢true e)
-not-true false e = refl
 
 module _ (test : ℕ → Bool) (n : ℕ) where
   pub some-hit : (i : ℕ) → firstBelow test n ≡ some i → someBelow test n ≡ true

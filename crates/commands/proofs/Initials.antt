@@ -1,6 +1,6 @@
 -- What Initialize leaves, by what its configuration gives.
 use mathlib.Core.Path.{_≡_}
-use mathlib.Core.Bool.{true}
+use mathlib.Core.Bool.{Bool, true, not}
 use mathlib.Core.List.{List}
 use Prim.Native.Nat.{ℕ}
 use lib.ListN.{length, set}
@@ -8,7 +8,7 @@ use Rattle.base.specs.Part.{part}
 use Rattle.geometry.specs.declared.params.Params.{Params}
 use Rattle.geometry.specs.declared.config.Setting.{Setting}
 use Rattle.geometry.specs.declared.config.Setting.the-variants.{Valid, Invalid}
-use Rattle.geometry.specs.Config.{settingOf}
+use Rattle.geometry.specs.Config.{settingOf, labelHolds}
 use Rattle.model.specs.declared.block.Block.{Block}
 use Rattle.model.specs.declared.record.Drive.{Drive}
 use Rattle.model.specs.declared.record.Controller.{Controller}
@@ -24,8 +24,9 @@ module _ (b : Block) (given : List ℕ) (c : Controller) (image config : List �
   unfolding initialize initializedBy failed
   initialize-invalid e o = rw (o, ← ten, ← is, e)
 
-  pub initialize-valid : (p : Params) → setting ≡ Valid p → (entry : Drive) → entry ≡ driveIn (c .drives) (b .drive) → (others : List Drive)
-      → others ≡ set (c .drives) (b .drive) (record { sense = entry .sense; config = config; known = true; pending = true })
+  pub initialize-valid : (p : Params) → setting ≡ Valid p → (entry : Drive) → entry ≡ driveIn (c .drives) (b .drive)
+      → (holds : Bool) → holds ≡ labelHolds image config → (others : List Drive)
+      → others ≡ set (c .drives) (b .drive) (record { sense = entry .sense; config = config; known = true; pending = not holds })
       → outcome ≡ goodOutcome (b .drive) 0 0 (recordOf (c .buffer) others) → silent outcome image ≡ initialize b given c image
   unfolding initialize initializedBy initialized good driveAt withDrive
-  initialize-valid p e entry d others w o = rw (o, w, d, ← ten, ← is, e)
+  initialize-valid p e entry d holds h others w o = rw (o, w, d, h, ← ten, ← is, e)

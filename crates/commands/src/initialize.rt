@@ -6,6 +6,7 @@ use control::record::failed;
 use control::record::good;
 use control::record::with_drive;
 use geometry::config::Setting;
+use geometry::config::label_holds;
 use geometry::config::setting_of;
 use model::block::Block;
 use model::record::Drive;
@@ -26,7 +27,7 @@ fn config_of(given: &[u8]) -> [u8; 10]
     config
 }
 
-// The configuration comes into force, pending, if it is valid with the image; else 22h.
+// The configuration comes into force if it is valid with the image; else 22h. It is pending unless the label holds it.
 pub fn initialize(drives: [Drive; 4], b: Block, given: &[u8], image: &[u8]) -> Ending
     requires { ⌜ (b .drive < 4) × (b .address .0 < 2097152) × (10 ≤ length (now given)) ⌝ }
     ensures { λ r. ⌜ Ends r drives (now (image .entry)) (λ c. initialize b (now (given .entry)) c (now (image .entry))) ⌝ }
@@ -39,11 +40,12 @@ pub fn initialize(drives: [Drive; 4], b: Block, given: &[u8], image: &[u8]) -> E
         Setting::Valid(_) => {
             let entry = drive_at(drives, drive);
             let sense = entry.sense;
+            let stored = label_holds(image, config);
             let next = Drive {
                 sense: sense,
                 config: config,
                 known: true,
-                pending: true,
+                pending: !stored,
             };
             good(with_drive(drives, drive, next), drive, 0, 0)
         }

@@ -12,13 +12,14 @@ use Rattle.base.specs.Pick.{pick}
 use Rattle.base.proofs.Decide.{pick-true, pick-false}
 use Rattle.geometry.specs.declared.config.Setting.{Setting}
 use Rattle.geometry.specs.declared.config.Setting.the-variants.{Valid, Invalid}
+use Rattle.geometry.specs.Config.{isValid}
 use Rattle.model.specs.declared.block.Block.{Block}
 use Rattle.model.specs.declared.table.Entry.{Entry}
 use Rattle.model.specs.declared.verdict.Verdict.{Verdict}
 use Rattle.model.specs.declared.verdict.Verdict.the-variants.{Refused, Passed}
 use Rattle.model.specs.Block.{countOf}
 use Rattle.model.specs.Table.{entryOf}
-use Rattle.model.specs.Checks.{on, judged, controlWrong, isValid, testsWith, tests, sizeIn, bytesOf, lengthsWith, judge}
+use Rattle.model.specs.Checks.{on, judged, controlWrong, testsWith, tests, sizeIn, bytesOf, lengthsWith, judge}
 use Rattle.control.specs.declared.checks.Limits.{Limits}
 use Rattle.control.specs.Limits.{Legal, limitsWith, limitsOf}
 

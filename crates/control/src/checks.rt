@@ -16,9 +16,10 @@ ghost use Prim.Native.Nat.{_+_, _-_, _≤_, _<_};
 ghost use lib.Dec.{ltb};
 ghost use Rattle.base.specs.Pick.{pick};
 ghost use Rattle.geometry.specs.Params.{Within};
+ghost use Rattle.geometry.specs.Config.{isValid};
 ghost use Rattle.model.specs.declared.verdict.Verdict.the-variants.{Refused, Passed};
 ghost use Rattle.model.specs.Table.{entryOf};
-ghost use Rattle.model.specs.Checks.{on, judged, controlWrong, isValid, reach, sizeIn, bytesOf, judge};
+ghost use Rattle.model.specs.Checks.{on, judged, controlWrong, reach, sizeIn, bytesOf, judge};
 ghost use Rattle.control.specs.Limits.{Legal, limitsWith, limitsOf};
 
 // A control bit that is not defined.

@@ -1,11 +1,10 @@
 -- What Reset loads of an image's label.
-use mathlib.Core.Path.{_≡_, refl, sym, _∙_}
+use mathlib.Core.Path.{_≡_, refl, sym}
 use mathlib.Core.Bool.{true, false}
 use mathlib.Core.List.{List, [], _∷_}
-use Prim.Native.Nat.{ℕ, _≤_, _<_}
+use Prim.Native.Nat.{ℕ}
 use native.Mathlib.Omega.{arith}
-use native.Mathlib.Decide.{decLt}
-use lib.ListN.{length, replicate}
+use lib.ListN.{replicate}
 use Rattle.geometry.specs.declared.params.Params.{Params}
 use Rattle.geometry.specs.declared.config.Setting.{Setting}
 use Rattle.geometry.specs.declared.config.Setting.the-variants.{Valid, Invalid}
@@ -16,18 +15,7 @@ use Rattle.model.specs.declared.record.Controller.{Controller}
 use Rattle.model.specs.Record.{blankDrive}
 use Rattle.model.specs.Engine.{loadedBy, loaded, fresh}
 
-not-valid : (p : Params) → Invalid ≡ Valid p → ⊥
-not-valid p e = let z : _≡_ {A = ℕ} 0 1 = cc in omega arith
-
 module _ (image : List ℕ) (setting : Setting) (is : setting ≡ labelSetting image) where
-  -- A valid label has all its bytes.
-  pub label-long : (p : Params) → setting ≡ Valid p → 10 ≤ length image
-  label-long p e = by (decLt (length image) 16)
-    where
-      by : Dec (length image < 16) → 10 ≤ length image
-      by (yes h) = absurd (not-valid p (label-short image h ∙ sym is ∙ e))
-      by (no n) = omega arith
-
   pub load-invalid : setting ≡ Invalid → blankDrive ≡ loaded image
   unfolding loaded loadedBy
   load-invalid e = rw (← is, e)

@@ -2,16 +2,19 @@
 use mathlib.Core.Path.{_≡_, refl, sym, ap, _∙_}
 use mathlib.Core.Bool.{Bool, true, false, not}
 use mathlib.Core.List.{List, [], _∷_}
-use Prim.Native.Nat.{ℕ, _+_, _<_}
+use Prim.Native.Nat.{ℕ, _+_, _≤_, _<_}
 use native.Mathlib.Omega.{arith}
+use native.Mathlib.Decide.{decLt}
 use lib.ListN.{length, take, drop, length-take, length-drop}
+use lib.Seq.{take-all}
 use Rattle.base.specs.Part.{part}
 use Rattle.base.specs.Same.{sameBytes}
 use Rattle.base.proofs.Decide.{pick-false, pick-not-true, pick-not-false}
 use Rattle.base.proofs.Sames.{same-eq}
+use Rattle.geometry.specs.declared.params.Params.{Params}
 use Rattle.geometry.specs.declared.config.Setting.{Setting}
-use Rattle.geometry.specs.declared.config.Setting.the-variants.{Invalid}
-use Rattle.geometry.specs.Config.{settingOf, labelConfig, labelSetting}
+use Rattle.geometry.specs.declared.config.Setting.the-variants.{Valid, Invalid}
+use Rattle.geometry.specs.Config.{settingOf, isValid, labelConfig, labelSetting, labelHolds}
 
 -- lists of two lengths are not the same
 pub not-same : (a b : List ℕ) → (length a ≡ length b → ⊥) → sameBytes a b ≡ false
@@ -38,3 +41,29 @@ module _ (image : List ℕ) where
     pub label-zeros : not zeros ≡ false → (config : List ℕ) → config ≡ labelConfig image → (s : Setting) → s ≡ settingOf config (length image) → s ≡ labelSetting image
     unfolding labelSetting part
     label-zeros t config c s e = e ∙ ap (λ (l : List ℕ). settingOf l (length image)) c ∙ sym (pick-not-false _ _ _ (ap not (sym is) ∙ t))
+
+-- A valid label has all its bytes, and holds those.
+not-valid : (p : Params) → Invalid ≡ Valid p → ⊥
+not-valid p e = let z : _≡_ {A = ℕ} 0 1 = cc in omega arith
+
+module _ (image : List ℕ) (setting : Setting) (is : setting ≡ labelSetting image) where
+  pub label-long : (p : Params) → setting ≡ Valid p → 10 ≤ length image
+  label-long p e = by (decLt (length image) 16)
+    where
+      by : Dec (length image < 16) → 10 ≤ length image
+      by (yes h) = absurd (not-valid p (label-short image h ∙ sym is ∙ e))
+      by (no n) = omega arith
+
+  pub holds-none : (config : List ℕ) → setting ≡ Invalid → false ≡ labelHolds image config
+  unfolding labelHolds isValid
+  holds-none config e = rw (← is, e)
+
+  pub holds-same : (p : Params) (config : List ℕ) → setting ≡ Valid p → sameBytes (labelConfig image) config ≡ labelHolds image config
+  unfolding labelHolds isValid
+  holds-same p config e = rw (← is, e)
+
+  -- as the code compares: ten bytes with ten
+  pub holds-ten : (p : Params) (config : List ℕ) → length config ≡ 10 → setting ≡ Valid p → (same : Bool)
+      → same ≡ sameBytes (take 10 (drop 0 image)) (take 10 (drop 0 config)) → same ≡ labelHolds image config
+  unfolding part
+  holds-ten p config ten e same compared = compared ∙ ap (sameBytes (take 10 image)) (take-all 10 config (omega arith)) ∙ holds-same p config e

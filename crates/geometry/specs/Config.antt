@@ -1,5 +1,5 @@
 -- Document 01, 'Parameters': when ten configuration bytes are valid with an image, and when a label is.
-use mathlib.Core.Bool.{_&&_}
+use mathlib.Core.Bool.{Bool, true, false, _&&_}
 use mathlib.Core.List.{List, [], _∷_}
 use Prim.Native.Nat.{ℕ, _+_, _-_, _*_, _/_, _%_}
 use lib.ListN.{length, getD}
@@ -44,6 +44,10 @@ settingOf c image =
     (settingBy (byte c 0 * 256 + byte c 1) (byte c 2) (byte c 3) (byte c 4) (byte c 9) image)
     Invalid
 
+unfoldable pub isValid : Setting → Bool
+isValid Invalid = false
+isValid (Valid p) = true
+
 -- Bytes 0-15 of the image are the label: ten configuration bytes, then six zeros.
 abbrev pub labelConfig : (image : List ℕ) → List ℕ
 labelConfig image = part 0 10 image
@@ -53,3 +57,7 @@ labelRest = 0 ∷ 0 ∷ 0 ∷ 0 ∷ 0 ∷ 0 ∷ []
 
 unfoldable pub labelSetting : (image : List ℕ) → Setting
 labelSetting image = pick (sameBytes (part 10 6 image) labelRest) (settingOf (labelConfig image) (length image)) Invalid
+
+-- These ten bytes are a valid label's: the six zeros and the image's length count too.
+unfoldable pub labelHolds : (image config : List ℕ) → Bool
+labelHolds image config = isValid (labelSetting image) && sameBytes (labelConfig image) config

@@ -6,7 +6,7 @@ ghost use mathlib.Core.Path.{_≡_};
 ghost use Prim.Native.Nat.{_+_, _*_, _≤_, _<_};
 ghost use lib.ListN.{length};
 ghost use Rattle.geometry.specs.Params.{Within};
-ghost use Rattle.geometry.specs.Config.{sizeFor, fittedTo, settingBy, settingOf, labelConfig, labelSetting};
+ghost use Rattle.geometry.specs.Config.{sizeFor, fittedTo, settingBy, settingOf, labelConfig, labelSetting, labelHolds};
 
 // What a configuration gives with an image of some length.
 pub enum Setting {
@@ -136,4 +136,15 @@ pub fn label_setting(image: &[u8]) -> Setting
         return Setting::Invalid;
     }
     setting_of(label_config(image), image.len())
+}
+
+// Whether these ten bytes are those of an image's valid label.
+pub fn label_holds(image: &[u8], config: [u8; 10]) -> bool
+    ensures { λ r. ⌜ r ≡ labelHolds (now (image .entry)) config ⌝ }
+{
+    let setting = label_setting(image);
+    match setting {
+        Setting::Invalid => false,
+        Setting::Valid(_) => same_bytes(&image[0..10], &config[0..10]),
+    }
 }

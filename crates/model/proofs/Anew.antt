@@ -38,7 +38,7 @@ unfolding settled
 settled-sense entry = refl
 
 -- ten configuration bytes and six zeros are a valid label
-label-made : (config after : List ℕ) (p : Params) → part 0 10 after ≡ config → part 10 6 after ≡ 0 ∷ 0 ∷ 0 ∷ 0 ∷ 0 ∷ 0 ∷ []
+pub label-made : (config after : List ℕ) (p : Params) → part 0 10 after ≡ config → part 10 6 after ≡ 0 ∷ 0 ∷ 0 ∷ 0 ∷ 0 ∷ 0 ∷ []
     → settingOf config (length after) ≡ Valid p → labelSetting after ≡ Valid p
 unfolding labelSetting
 label-made config after p front zeros valid =

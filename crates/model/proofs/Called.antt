@@ -41,7 +41,7 @@ other-image false true own₀ own₁ after image0 image1 e₀ e₁ = rw (e₁ re
 other-image false false own₀ own₁ after image0 image1 e₀ e₁ = refl
 
 module _ (drive : ℕ) (after image0 image1 : List ℕ) (len : length after ≡ length (imageOf drive image0 image1)) where
-  left-images : (d : ℕ) → imageOf d (pick (eqb drive 0) after image0) (pick (eqb drive 1) after image1)
+  pub left-images : (d : ℕ) → imageOf d (pick (eqb drive 0) after image0) (pick (eqb drive 1) after image1)
       ≡ changed (λ k. imageOf k image0 image1) drive after d
   unfolding imageOf
   left-images d = by (ℕ-discrete d drive)
@@ -66,7 +66,7 @@ pub record Answered (reply : Reply) (s : State) (x : Reply × Machine) : Type 0 
 abbrev Executes : Result → Reply × Machine → Type 0
 Executes r x = Answered (replyOf (r .outcome .answer) (r .area)) (record { controller = r .outcome .controller; image0 = r .image0; image1 = r .image1 }) x
 
-drive-below : (block : List ℕ) → blockOf block .drive < 4
+pub drive-below : (block : List ℕ) → blockOf block .drive < 4
 unfolding blockOf
 drive-below block = mod-lt _ (omega arith)
 

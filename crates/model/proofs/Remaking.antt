@@ -44,7 +44,7 @@ six-of : part 0 6 zeros ≡ zeros
 unfolding part
 six-of = refl
 
-label-parts : (config : List ℕ) → length config ≡ 10 → (image : List ℕ) → part 0 16 image ≡ config ++ zeros
+pub label-parts : (config : List ℕ) → length config ≡ 10 → (image : List ℕ) → part 0 16 image ≡ config ++ zeros
     → (part 0 10 image ≡ config) × (part 10 6 image ≡ zeros)
 label-parts config ten image is = (
   sym (part-part 0 16 0 10 image (omega arith)) ∙ ap (part 0 10) is ∙ part-left 0 10 config zeros (omega arith) ∙ ten-of config ten,

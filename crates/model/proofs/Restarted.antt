@@ -28,11 +28,11 @@ image-none : (d : ℕ) (image0 image1 : List ℕ) → imageOf (suc (suc d)) imag
 unfolding imageOf pick
 image-none d image0 image1 = rw (eqb·suc-zero (suc d), eqb·suc-suc (suc d) 0, eqb·suc-zero d)
 
-loaded-blank : (image : List ℕ) → labelSetting image ≡ Invalid → loaded image ≡ blankDrive
+pub loaded-blank : (image : List ℕ) → labelSetting image ≡ Invalid → loaded image ≡ blankDrive
 unfolding loaded loadedBy
 loaded-blank image e = rw e
 
-loaded-known : (image : List ℕ) (p : Params) → labelSetting image ≡ Valid p
+pub loaded-known : (image : List ℕ) (p : Params) → labelSetting image ≡ Valid p
     → loaded image ≡ record { sense = replicate 4 0; config = labelConfig image; known = true; pending = false }
 unfolding loaded loadedBy
 loaded-known image p e = rw e
@@ -44,7 +44,7 @@ empty-label = refl
 loaded-none : loaded [] ≡ blankDrive
 loaded-none = loaded-blank [] empty-label
 
-fresh-drive : (image0 image1 : List ℕ) (d : ℕ) → driveAt (fresh image0 image1) d ≡ loaded (imageOf d image0 image1)
+pub fresh-drive : (image0 image1 : List ℕ) (d : ℕ) → driveAt (fresh image0 image1) d ≡ loaded (imageOf d image0 image1)
 unfolding driveAt fresh imageOf pick
 fresh-drive image0 image1 zero = refl
 fresh-drive image0 image1 (suc zero) = refl

@@ -1,44 +1,61 @@
 -- The commands that leave the image: Request Sense, the buffer's, Initialize.
 use Prim.Native.Nat.{ℕ, _≤_, _<_}
-use mathlib.Core.Path.{_≡_, refl, sym, subst}
-use mathlib.Core.Bool.{true, true≢false}
-use mathlib.Core.Option.{some}
+use mathlib.Core.Path.{_≡_, refl, sym, ap, subst, _∙_}
+use mathlib.Core.Bool.{Bool, true, not, false≢true}
+use mathlib.Core.Option.{Option, none, some}
 use mathlib.Core.List.{List, []}
 use native.Mathlib.Omega.{arith}
 use lib.ListN.{length, take}
 use Rattle.base.specs.Pick.{pick}
 use Rattle.base.specs.Part.{part}
+use Rattle.base.specs.Same.{sameBytes}
+use Rattle.base.proofs.Bools.{not-false}
+use Rattle.base.proofs.Sames.{same-eq}
 use Rattle.base.proofs.Parts.{length-part}
 use Rattle.geometry.specs.declared.config.Setting.{Setting}
 use Rattle.geometry.specs.declared.config.Setting.the-variants.{Valid, Invalid}
-use Rattle.geometry.specs.Config.{settingOf}
+use Rattle.geometry.specs.Config.{settingOf, labelSetting, labelHolds}
+use Rattle.geometry.proofs.Labels.{holds-none, holds-same}
 use Rattle.model.specs.declared.block.Block.{Block}
 use Rattle.model.specs.declared.record.Drive.{Drive}
 use Rattle.model.specs.declared.record.Controller.{Controller}
 use Rattle.model.specs.Record.{driveAt, withDrive, withBuffer, good, goodOutcome}
 use Rattle.model.specs.Commands.{requestSense, initialized, initializedBy, initialize}
-use Rattle.model.specs.Machine.{Disk, Machine, withDisk, inForce, well, initializeBy}
+use Rattle.model.specs.Machine.{Disk, Machine, withDisk, inForce, well, isStored, initializeBy}
 use Rattle.model.specs.Machine.{withBuffer as buffering}
 use Rattle.model.specs.Claim.{replyOf}
-use Rattle.model.proofs.Agrees.{Drives, Agrees, Follows}
+use Rattle.model.proofs.Agrees.{Stored, nothing, something, Drives, Agrees, Follows}
 use Rattle.model.proofs.Ends.{front, agree-kept, agree-buffer, agree-drive, well-follows, fault-follows}
 use Rattle.model.proofs.Current.{stored-forced}
 
-drive-initialized : (config : List ℕ) (entry : Drive) (image : List ℕ) (u : Disk) → Drives entry image u
-    → Drives (initialized config entry) image (inForce (some config) true u)
+-- a valid label holds what is stored, and nothing else
+holds-stored : (u : Disk) (image config : List ℕ) {o : Option (List ℕ)} → Stored u image o → labelHolds image config ≡ isStored o config
+unfolding isStored
+holds-stored u image config (nothing i) = sym (holds-none image (labelSetting image) refl config i)
+holds-stored u image config (something before p s l i mirror) =
+    sym (holds-same image (labelSetting image) refl p config i) ∙ ap (λ (k : List ℕ). sameBytes k config) l
+
+is-stored : (o : Option (List ℕ)) (config : List ℕ) → isStored o config ≡ true → some config ≡ o
+unfolding isStored
+is-stored none config e = absurd (false≢true e)
+is-stored (some before) config e = ap {B = Option (List ℕ)} some (sym (same-eq before config e))
+
+drive-initialized : (config : List ℕ) (pending : Bool) (entry : Drive) (image : List ℕ) (u : Disk) → Drives entry image u
+    → pending ≡ not (isStored (u .stored) config)
+    → Drives (initialized config pending entry) image (inForce (some config) (not (isStored (u .stored) config)) u)
 unfolding initialized inForce pick
-drive-initialized config entry image u drive = record {
+drive-initialized config pending entry image u drive same = record {
   len = drive .len;
   force = refl;
-  pending = refl;
-  settled = λ e. absurd (true≢false e);
-  stored = stored-forced u image (some config) true (drive .stored);
+  pending = sym same;
+  settled = λ e. is-stored (u .stored) config (not-false _ e);
+  stored = stored-forced u image (some config) _ (drive .stored);
   sense = drive .sense;
 }
 
-initialized-sense : (config : List ℕ) (entry : Drive) → initialized config entry .sense ≡ entry .sense
+initialized-sense : (config : List ℕ) (pending : Bool) (entry : Drive) → initialized config pending entry .sense ≡ entry .sense
 unfolding initialized
-initialized-sense config entry = refl
+initialized-sense config pending entry = refl
 
 module _ (image : ℕ → List ℕ) (b : Block) (area : List ℕ) (c : Controller) (m : Machine) (four : b .drive < 4) (agree : Agrees c image m) where
   pub sense-follows : Follows image b area (requestSense b c (image (b .drive))) (well b 0 (m .senses (b .drive)) m .0, m)
@@ -67,11 +84,11 @@ module _ (image : ℕ → List ℕ) (b : Block) (area : List ℕ) (c : Controlle
   unfolding initializedBy initializeBy
   initialized-follows Invalid config = fault-follows image b area c m four agree 0x22 (b .address)
   initialized-follows (Valid p) config =
-      let entry = initialized config (driveAt c (b .drive)) in
-      let u = inForce (some config) true (m .disks (b .drive)) in
-      well-follows image b area four 0 [] (withDrive (b .drive) entry c) (image (b .drive)) (withDisk (b .drive) u m) refl
-      (agree-drive c image m agree (b .drive) four entry (image (b .drive)) u (initialized-sense config (driveAt c (b .drive)))
-      (drive-initialized config (driveAt c (b .drive)) (image (b .drive)) (m .disks (b .drive)) (agree .drives (b .drive))))
+      let before = agree .drives (b .drive) in
+      well-follows image b area four 0 [] (withDrive (b .drive) _ c) (image (b .drive)) (withDisk (b .drive) _ m) refl
+      (agree-drive c image m agree (b .drive) four _ (image (b .drive)) _ (initialized-sense config _ (driveAt c (b .drive)))
+      (drive-initialized config _ (driveAt c (b .drive)) (image (b .drive)) (m .disks (b .drive)) before
+      (ap not (holds-stored (m .disks (b .drive)) (image (b .drive)) config (before .stored)))))
 
   pub initialize-follows : (given : List ℕ) → Follows image b area (initialize b given c (image (b .drive)))
       (initializeBy (settingOf (take 10 given) (m .disks (b .drive) .len)) b (take 10 given) m (m .disks (b .drive)))

@@ -6,10 +6,13 @@ pub mod Order
 pub mod Assigning
 pub mod Formatting
 pub mod Configurations
+pub mod Initializing
 pub mod Damage
 pub mod Refusals
 pub mod Untouched
 pub mod Written
 pub mod Beyond
+pub mod Labelled
+pub mod Settled
 pub mod Corollaries
 pub mod Examples

@@ -1,6 +1,6 @@
 -- Document 01, 'Order of checks', and rows 2 and 3 of the table of returned values: a function of a small view of the drive.
 use Prim.Native.Nat.{ℕ, _+_, _-_, _*_, _%_}
-use mathlib.Core.Bool.{Bool, true, false, not, _&&_, _||_}
+use mathlib.Core.Bool.{Bool, not, _&&_, _||_}
 use mathlib.Core.List.{List, [], _∷_}
 use lib.Dec.{leb, ltb, eqb}
 use Rattle.base.specs.Pick.{pick}
@@ -8,6 +8,7 @@ use Rattle.geometry.specs.declared.params.Lba.{Lba}
 use Rattle.geometry.specs.declared.config.Setting.{Setting}
 use Rattle.geometry.specs.declared.config.Setting.the-variants.{Valid, Invalid}
 use Rattle.geometry.specs.Params.{trackOf, lastAddress}
+use Rattle.geometry.specs.Config.{isValid}
 use Rattle.model.specs.declared.block.Block.{Block}
 use Rattle.model.specs.declared.table.Entry.{Entry}
 use Rattle.model.specs.declared.table.Data.{Data}
@@ -44,10 +45,6 @@ presentWith image = leb 16 image
 -- Only control bit 7, without effect, and 5 where named are defined.
 unfoldable pub controlWrong : Entry → (control : ℕ) → Bool
 controlWrong e control = not (eqb (control % 128) 0 || (e .fill && eqb (control % 128) 32))
-
-unfoldable pub isValid : Setting → Bool
-isValid Invalid = false
-isValid (Valid p) = true
 
 -- The sectors from the address on that must be on the drive.
 unfoldable pub reach : Entry → Block → ℕ

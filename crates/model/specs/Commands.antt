@@ -12,7 +12,7 @@ use Rattle.geometry.specs.declared.params.Params.{Params}
 use Rattle.geometry.specs.declared.config.Setting.{Setting}
 use Rattle.geometry.specs.declared.config.Setting.the-variants.{Valid, Invalid}
 use Rattle.geometry.specs.Params.{trackCount, trackOf, lastAddress}
-use Rattle.geometry.specs.Config.{byte, settingOf, labelRest}
+use Rattle.geometry.specs.Config.{byte, settingOf, labelRest, labelHolds}
 use Rattle.interleave.specs.Layout.{layoutOf}
 use Rattle.track.specs.declared.id.State.{State}
 use Rattle.track.specs.declared.id.State.the-variants.{Sound, Bad, Moved, Taken}
@@ -137,13 +137,15 @@ assignAlternate b p given c image =
     b c image
     (good b 0 [] c (assigned b p (trackOf p (b .address)) (trackOf p (alternateOf given)) (fillOf b p c) image))
 
--- ---- 11h Initialize: takes the 10 configuration bytes; not valid, 22h. They come into force, pending.
-unfoldable pub initialized : List ℕ → Drive → Drive
-initialized config entry = record { sense = entry .sense; config = config; known = true; pending = true }
+-- ---- 11h Initialize: takes the 10 configuration bytes; not valid, 22h. They come into force, not pending where they are a
+-- valid label's (request E1), else pending. The image is untouched.
+unfoldable pub initialized : (config : List ℕ) → (pending : Bool) → Drive → Drive
+initialized config pending entry = record { sense = entry .sense; config = config; known = true; pending = pending }
 
 unfoldable pub initializedBy : Setting → Block → (config : List ℕ) → Controller → (image : List ℕ) → Effect
 initializedBy Invalid b config c image = failed b 0x22 (b .address) 0 [] c image
-initializedBy (Valid p) b config c image = good b 0 [] (withDrive (b .drive) (initialized config (driveAt c (b .drive))) c) image
+initializedBy (Valid p) b config c image =
+    good b 0 [] (withDrive (b .drive) (initialized config (not (labelHolds image config)) (driveAt c (b .drive))) c) image
 
 unfoldable pub initialize : Block → (given : List ℕ) → Controller → (image : List ℕ) → Effect
 initialize b given c image = initializedBy (settingOf (part 0 10 given) (length image)) b (part 0 10 given) c image

@@ -9,6 +9,7 @@ use mathlib.Core.List.{List, [], _∷_, _++_}
 use lib.ListN.{length, take, drop, replicate}
 use lib.Dec.{ltb, leb, eqb}
 use Rattle.base.specs.Pick.{pick}
+use Rattle.base.specs.Same.{sameBytes}
 use Rattle.geometry.specs.declared.params.Lba.{Lba}
 use Rattle.geometry.specs.declared.params.Track.{Track}
 use Rattle.geometry.specs.declared.params.Params.{Params}
@@ -311,10 +312,14 @@ assignAlternate b p given m u =
     (well b 0 []
     (withDisk (b .drive) (assignTo p (trackOf p (b .address)) (trackOf p (addressGiven given)) (b .extra) (filling b p m) u) m))
 
--- Initialize: not valid, 22h; else in force, pending.
+-- Initialize: not valid, 22h; else in force, not pending where it is the configuration stored (request E1), else pending.
+unfoldable pub isStored : Option (List ℕ) → (config : List ℕ) → Bool
+isStored none config = false
+isStored (some stored) config = sameBytes stored config
+
 unfoldable pub initializeBy : Setting → Block → (config : List ℕ) → Machine → Disk → Reply × Machine
 initializeBy Invalid b config m u = failing b 0x22 (b .address) 0 [] m
-initializeBy (Valid p) b config m u = well b 0 [] (withDisk (b .drive) (inForce (some config) true u) m)
+initializeBy (Valid p) b config m u = well b 0 [] (withDisk (b .drive) (inForce (some config) (not (isStored (u .stored) config)) u) m)
 
 -- ---- The commands
 unfoldable pub withParameters : Setting → Block → Machine → (Params → Reply × Machine) → Reply × Machine

@@ -10,7 +10,7 @@ use crate::engine::{apply, Call, Engine, Step};
 use crate::legal::{self, Setting};
 use crate::machine::{Machine, Reply};
 use crate::paper::{self, Geometry};
-use crate::plain::{Answer, Controller};
+use crate::plain::{Answer, Controller, Drive};
 use crate::random::{self, Caller, Random, Scale};
 
 /// The sense codes of document 01.
@@ -50,6 +50,9 @@ pub struct Tally {
     pub good: u64,
     /// Sectors whose bytes were looked up in the images at the end of lists.
     pub looked_up: u64,
+    /// Initializes that ended well, by whether they left the drive pending.
+    pub settled: u64,
+    pub pending: u64,
     pub numbers: [u64; 4],
     pub codes: [u64; 128],
 }
@@ -62,6 +65,8 @@ impl Default for Tally {
             resets: 0,
             good: 0,
             looked_up: 0,
+            settled: 0,
+            pending: 0,
             numbers: [0; 4],
             codes: [0; 128],
         }
@@ -75,6 +80,8 @@ impl AddAssign<&Tally> for Tally {
         self.resets += other.resets;
         self.good += other.good;
         self.looked_up += other.looked_up;
+        self.settled += other.settled;
+        self.pending += other.pending;
         add_each(&mut self.numbers, &other.numbers);
         add_each(&mut self.codes, &other.codes);
     }
@@ -87,27 +94,35 @@ fn add_each(sums: &mut [u64], more: &[u64]) {
 }
 
 impl Tally {
-    /// Counts a call by its answer and the sense that it left.
-    fn count(&mut self, call: &Call, answer: &Answer, senses: [[u8; 4]; 4]) {
+    /// Counts a call by its answer and the drives that it left.
+    fn count(&mut self, call: &Call, answer: &Answer, drives: &[Drive; 4]) {
         self.calls += 1;
-        if *call == Call::Reset {
+        let Call::Execute { block, .. } = call else {
             self.resets += 1;
-        } else if answer.number != 0 {
+            return;
+        };
+        let drive = &drives[usize::from(answer.status >> 5 & 3)];
+        if answer.number != 0 {
             self.numbers[usize::from(answer.number & 3)] += 1;
-        } else if answer.status & 2 == 0 {
-            self.good += 1;
+        } else if answer.status & 2 != 0 {
+            self.codes[usize::from(drive.sense[0] & 0x7F)] += 1;
         } else {
-            let [code, ..] = senses[usize::from(answer.status >> 5 & 3)];
-            self.codes[usize::from(code & 0x7F)] += 1;
+            self.good += 1;
+            if block[0] == 0x11 {
+                *(if drive.pending { &mut self.pending } else { &mut self.settled }) += 1;
+            }
         }
     }
 
-    /// The codes and numbers of document 01 that were not reached.
+    /// The codes and numbers of document 01, and the ends of Initialize, that were not reached.
     pub fn missing(&self) -> Vec<String> {
         let codes = CODES.iter().filter(|&&code| self.codes[usize::from(code)] == 0);
         let numbers = (1..4).filter(|&number| self.numbers[number] == 0);
         let codes = codes.map(|code| format!("code {code:02X}h"));
-        codes.chain(numbers.map(|number| format!("number {number}"))).collect()
+        let ends = [("an Initialize not pending", self.settled), ("one pending", self.pending)];
+        let ends = ends.into_iter().filter(|&(_, count)| count == 0);
+        let ends = ends.map(|(name, _)| name.to_string());
+        codes.chain(numbers.map(|number| format!("number {number}"))).chain(ends).collect()
     }
 }
 
@@ -130,6 +145,8 @@ impl fmt::Display for Table<'_> {
             writeln!(f, "number {number}        {l:>12}{d:>12}")?;
         }
         writeln!(f, "{:<16}{:>12}{:>12}", "good", l.good, d.good)?;
+        writeln!(f, "{:<16}{:>12}{:>12}", "11h settled", l.settled, d.settled)?;
+        writeln!(f, "{:<16}{:>12}{:>12}", "11h pending", l.pending, d.pending)?;
         writeln!(f, "{:<16}{:>12}{:>12}", "resets", l.resets, d.resets)?;
         writeln!(f, "{:<16}{:>12}{:>12}", "calls", l.calls, d.calls)?;
         writeln!(f, "{:<16}{:>12}{:>12}", "starts", l.starts, d.starts)?;
@@ -275,8 +292,7 @@ impl<E: Engine> List<E> {
             apply(&mut self.engine, &step.call, &mut area, &mut self.images)
         };
         same_reply(&reply, &answer, &step.area, &area)?;
-        let senses = [0, 1, 2, 3].map(|drive| self.machine.sense(drive));
-        tally.count(&step.call, &answer, senses);
+        tally.count(&step.call, &answer, &self.engine.record().drives);
         Ok(())
     }
 }
@@ -348,7 +364,7 @@ fn one_damaged<E: Engine>(
         let mut area = step.area.clone();
         let answer = judged_call(&mut engine, &step.call, &mut area, &mut images)
             .map_err(|what| at_call(index, &step, what))?;
-        tally.count(&step.call, &answer, engine.record().drives.map(|drive| drive.sense));
+        tally.count(&step.call, &answer, &engine.record().drives);
     }
     Ok(())
 }

@@ -154,11 +154,13 @@ impl Expected<'_> {
 
     fn initialize(&mut self, request: &Request, given: &[u8]) -> Result<(), Fault> {
         let config = given[..10].try_into().expect("ten bytes");
-        if Geometry::read(&config, self.image(request).len()).is_none() {
+        let image = self.image(request);
+        if Geometry::read(&config, image.len()).is_none() {
             return Err(request.fault(0x22));
         }
+        let pending = paper::label(image) != Some(config);
         let record = &mut self.setting.controller.drives[request.drive];
-        (record.config, record.known, record.pending) = (config, true, true);
+        (record.config, record.known, record.pending) = (config, true, pending);
         Ok(())
     }
 

@@ -151,11 +151,6 @@ impl Machine {
         reply
     }
 
-    /// The sense of a drive, for counting what was reached.
-    pub fn sense(&self, drive: usize) -> [u8; 4] {
-        self.senses[drive]
-    }
-
     pub fn stored(&self, drive: usize) -> Option<Config> {
         self.drives[drive].stored
     }
@@ -206,7 +201,7 @@ impl Machine {
             return Err(request.fault(0x22));
         }
         drive.in_force = Some(config);
-        drive.pending = true;
+        drive.pending = drive.stored != Some(config);
         Ok(())
     }
 

@@ -389,17 +389,19 @@ fn take<const N: usize>(given: &[u8]) -> Result<&[u8; N], Stop> {
     given.first_chunk().ok_or(Stop::Refused(2))
 }
 
+/// The configuration bytes of a valid label.
+fn valid_label(image: &[u8]) -> Option<&[u8; CONFIG]> {
+    let label: &[u8; LABEL] = image.first_chunk()?;
+    let (config, rest) = label.split_first_chunk()?;
+    let valid = rest.iter().all(|&byte| byte == 0) && Geometry::of(config, image.len()).is_some();
+    valid.then_some(config)
+}
+
 impl Drive {
     fn from_label(image: &[u8]) -> Drive {
-        let label: Option<&[u8; LABEL]> = image.first_chunk();
-        match label.and_then(|label| label.split_first_chunk::<CONFIG>()) {
-            Some((config, rest))
-                if rest.iter().all(|&byte| byte == 0)
-                    && Geometry::of(config, image.len()).is_some() =>
-            {
-                Drive { config: *config, known: true, ..Drive::default() }
-            }
-            _ => Drive::default(),
+        match valid_label(image) {
+            Some(config) => Drive { config: *config, known: true, ..Drive::default() },
+            None => Drive::default(),
         }
     }
 
@@ -477,7 +479,7 @@ impl Controller {
                 Ok(())
             }
             opcode::READ_BUFFER => hand_over(&self.buffer, area, answer),
-            opcode::INITIALIZE => self.initialize(block.drive, given, image.len()),
+            opcode::INITIALIZE => self.initialize(block.drive, given, image),
             _ => self.run_on_drive(block, given, area, image, answer),
         }
     }
@@ -522,16 +524,17 @@ impl Controller {
         Ok(geometry)
     }
 
-    fn initialize(&mut self, drive: usize, given: &[u8], image_length: usize) -> Run {
-        if image_length < LABEL {
+    fn initialize(&mut self, drive: usize, given: &[u8], image: &[u8]) -> Run {
+        if image.len() < LABEL {
             return Err(fault(0x04));
         }
         let config = take(given)?;
-        if Geometry::of(config, image_length).is_none() {
+        if Geometry::of(config, image.len()).is_none() {
             return Err(fault(0x22));
         }
+        let pending = valid_label(image) != Some(config);
         let drive = &mut self.drives[drive];
-        (drive.config, drive.known, drive.pending) = (*config, true, true);
+        (drive.config, drive.known, drive.pending) = (*config, true, pending);
         Ok(())
     }
 

@@ -424,7 +424,7 @@ impl Caller {
         let length = self.lengths.get(drive).copied().unwrap_or(0);
         let stored = self.beliefs.get(drive).and_then(|belief| belief.stored);
         let mut config = match (stored, fitting_config(&mut self.random, self.scale, length)) {
-            (Some(stored), _) if self.random.chance(20) => stored,
+            (Some(stored), _) if self.random.chance(50) => self.nearly(stored),
             (_, Some(fitting)) => fitting,
             (_, None) => any_config(&mut self.random, Scale::Small),
         };
@@ -433,10 +433,19 @@ impl Caller {
         } else if let Some(belief) = self.beliefs.get_mut(drive) {
             if Geometry::read(&config, length).is_some() {
                 belief.in_force = Some(config);
-                belief.pending = true;
+                belief.pending = belief.stored != Some(config);
             }
         }
         draft.given = config.to_vec();
+    }
+
+    /// A stored configuration, sometimes with one bit changed where it stays valid.
+    fn nearly(&mut self, mut config: Config) -> Config {
+        if self.random.chance(30) {
+            let at = self.random.pick(&[3, 5, 6, 7, 8, 9]);
+            config[at] ^= if at == 3 || at == 9 { 1 } else { 1 << self.random.below(8) };
+        }
+        config
     }
 
     /// The call with lengths of given data and area that are mostly enough.

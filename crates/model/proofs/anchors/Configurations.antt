@@ -9,8 +9,7 @@ use Rattle.base.specs.Part.{part}
 use Rattle.base.specs.Same.{sameBytes}
 use Rattle.geometry.specs.declared.config.Setting.{Setting}
 use Rattle.geometry.specs.declared.config.Setting.the-variants.{Valid, Invalid}
-use Rattle.geometry.specs.Config.{sizeFor, fittedTo, settingBy, settingOf, labelSetting}
-use Rattle.model.specs.Checks.{isValid}
+use Rattle.geometry.specs.Config.{sizeFor, fittedTo, settingBy, settingOf, isValid, labelSetting, labelHolds}
 
 -- C, H, n and D; or nothing
 gives : Setting → List ℕ
@@ -61,3 +60,22 @@ labels :
     × (map (λ (n : ℕ). isValid (labelSetting (take n (plain ++ replicate 6 0)))) (0 ∷ 9 ∷ 10 ∷ 15 ∷ 16 ∷ []) ≡ replicate 5 false)
 unfolding plain labelled isValid labelSetting part sameBytes settingOf settingBy sizeFor fittedTo pick
 labels = (refl, refl, refl, refl, refl)
+
+-- what a label holds: its ten bytes and no others, if it is valid as a whole
+held : (label config : List ℕ) → Bool
+held label = labelHolds (label ++ replicate 8448 0xEE)
+
+holdings :
+    (held (plain ++ replicate 6 0) plain ≡ true)
+    -- each of the ten bytes counts
+    × (map (λ (i : ℕ). held (plain ++ replicate 6 0) (set plain i 7)) (0 ∷ 1 ∷ 2 ∷ 3 ∷ 4 ∷ 5 ∷ 6 ∷ 7 ∷ 8 ∷ 9 ∷ []) ≡ replicate 10 false)
+    -- nine bytes, and eleven
+    × (map (held (plain ++ replicate 6 0)) (take 9 plain ∷ (plain ++ (0 ∷ [])) ∷ []) ≡ replicate 2 false)
+    -- each of the six zeros counts
+    × (map (λ (i : ℕ). held (plain ++ set (replicate 6 0) i 1) plain) (0 ∷ 1 ∷ 2 ∷ 3 ∷ 4 ∷ 5 ∷ []) ≡ replicate 6 false)
+    -- the same bytes, not valid; an image one byte short; no bytes
+    × (held (set plain 2 8 ++ replicate 6 0) (set plain 2 8) ≡ false)
+    × (labelHolds (plain ++ replicate 6 0 ++ replicate 8447 0xEE) plain ≡ false)
+    × (map (labelHolds []) ([] ∷ plain ∷ []) ≡ replicate 2 false)
+unfolding plain held labelHolds isValid labelSetting part sameBytes settingOf settingBy sizeFor fittedTo pick
+holdings = (refl, refl, refl, refl, refl, refl, refl)

@@ -1,25 +1,26 @@
 -- What follows for any controller, block, data and images from the engine's definition, and for zero images from the claim.
 use Prim.Native.Nat.{ℕ, zero, suc, _+_, _*_, _≤_, _<_}
-use mathlib.Core.Path.{_≡_, refl, ap, ap₂, _∙_}
-use mathlib.Core.Bool.{Bool, true, false}
+use mathlib.Core.Path.{_≡_, refl, sym, ap, ap₂, _∙_}
+use mathlib.Core.Bool.{Bool, true, false, not}
 use mathlib.Core.List.{List, [], _∷_, map}
 use native.Mathlib.Omega.{arith}
 use lib.ListN.{length, take, drop, getD, replicate, length-replicate}
 use lib.Dec.{eqb}
 use borrow.Author.Tests.{le-ltb, ne-eqb}
 use Rattle.base.specs.Pick.{pick}
+use Rattle.base.proofs.Bools.{not-false}
 use Rattle.base.specs.Part.{part}
 use Rattle.geometry.specs.declared.params.Track.{Track}
 use Rattle.geometry.specs.declared.params.Params.{Params}
 use Rattle.geometry.specs.declared.config.Setting.{Setting}
 use Rattle.geometry.specs.declared.config.Setting.the-variants.{Valid, Invalid}
 use Rattle.geometry.specs.Params.{Within, imageLength, trackCount}
-use Rattle.geometry.specs.Config.{settingBy, settingOf, labelSetting}
+use Rattle.geometry.specs.Config.{settingBy, settingOf, labelSetting, labelHolds}
 use Rattle.track.specs.Find.{Slot}
 use Rattle.track.specs.Image.{trackBytes, slotId, slotData}
 use Rattle.model.specs.declared.block.Block.{Block}
 use Rattle.model.specs.declared.table.Command.{Command}
-use Rattle.model.specs.declared.table.Command.the-variants.{Initialize}
+use Rattle.model.specs.declared.table.Command.the-variants.{FormatDrive, Initialize}
 use Rattle.model.specs.declared.record.Controller.{Controller}
 use Rattle.model.specs.Block.{blockOf}
 use Rattle.model.specs.Table.{entryOf}
@@ -33,8 +34,9 @@ use Rattle.model.specs.Claim.{replies, atEnd, State, Order, Reset, Comma
 use Rattle.model.specs.Claim.{begin, beginMachine, Holds, Claim}
 use Rattle.model.proofs.Claimed.{claimed}
 use Rattle.model.proofs.anchors.Refusals.{unmoved, Answered, accepted, unchanged, all-answered, images-kept}
-use Rattle.model.proofs.anchors.Beyond.{unless-image, initialized-image, past-kept, image-kept}
+use Rattle.model.proofs.anchors.Beyond.{unless-left, initialized-image, outside-kept}
 use Rattle.model.proofs.anchors.Written.{Written, writes}
+use Rattle.model.proofs.anchors.Settled.{from-fresh}
 use Rattle.model.proofs.anchors.Session.{brief, lengths, calls, answers, worked}
 
 -- ---- (a) Number 1, 2 or 3: status, message and counts 0, and controller, area and images as they were. There is no other number.
@@ -56,12 +58,13 @@ beyond : (choices : List ℕ) (b : Block) (given : List ℕ) (area : ℕ) (c : C
     → settingIn (driveAt c (b .drive)) (length image) ≡ Valid p
     → (length (obey choices b given area c image .image) ≡ length image)
     × ((at size : ℕ) → imageLength p ≤ at → part at size (obey choices b given area c image .image) ≡ part at size image)
-beyond choices b given area c image p valid = let past = past-kept choices b given area c image p valid in (past .len, past .same)
+beyond choices b given area c image p valid =
+    let kept = outside-kept choices b given area c image 0 (omega arith) (λ is. refl) in (kept .len, kept .past p valid)
 
 -- and without parameters all bytes stay
 untouched : (choices : List ℕ) (b : Block) (given : List ℕ) (area : ℕ) (c : Controller) (image : List ℕ)
     → settingIn (driveAt c (b .drive)) (length image) ≡ Invalid → obey choices b given area c image .image ≡ image
-untouched = image-kept
+untouched choices b given area c image none = outside-kept choices b given area c image 0 (omega arith) (λ is. refl) .all none
 
 -- ---- (c) A Write changes only the data bytes of slots that it found: the label, every ID and all other data stay
 module _ (p : Params) (w : Within p) (n a : ℕ) (choices given image : List ℕ) (fits : imageLength p ≤ length image)
@@ -74,7 +77,7 @@ module _ (p : Params) (w : Within p) (n a : ℕ) (choices given image : List ℕ
   all-written = writes p w n a choices given (begun image) fits inside enough
 
   label-stays : part 0 16 after ≡ part 0 16 image
-  label-stays = all-written .label 0 16 (omega arith)
+  label-stays = all-written .outside .below 0 16 (omega arith)
 
   ids-stay : (t : Track) (k : ℕ) → t .0 < trackCount p → k < p .sectors → slotId p k (trackBytes p t after) ≡ slotId p k (trackBytes p t image)
   ids-stay = all-written .ids
@@ -100,8 +103,8 @@ module _ (choices : List ℕ) (c : Controller) (given : List ℕ) where
   unfolding obey entryOf carryOut initialize
   initialize-obeyed b area image is =
       let command : entryOf (b .opcode) .command ≡ Initialize = ap (λ (opcode : ℕ). entryOf opcode .command) is in
-      unless-image _ b c image _
-      (ap (λ (k : Command). carryOut choices b (settingIn (driveAt c (b .drive)) (length image)) given c image k .image) command
+      unless-left (λ (after : List ℕ). after ≡ image) _ b c image _ refl (λ passed.
+      ap (λ (k : Command). carryOut choices b (settingIn (driveAt c (b .drive)) (length image)) given c image k .image) command
       ∙ initialized-image (settingOf (part 0 10 given) (length image)) b (part 0 10 given) c image)
 
   initialize-leaves : (block area image0 image1 : List ℕ) → blockOf block .opcode ≡ 0x11
@@ -185,3 +188,21 @@ engine-worked : (orders : List Order) (said : List Reply) (s : State) → map fe
 engine-worked orders said s is runs =
     ap (map brief) (zero-claim 25360 25360 orders said s runs .0
     ∙ ap (replies (beginMachine (zeros 25360) (zeros 25360))) is ∙ ap (λ (m : Machine). replies m calls) (machine-same 25360)) ∙ worked
+
+-- ---- (g) No command but Format Drive changes a byte of the label
+label-left : (choices : List ℕ) (b : Block) (given : List ℕ) (area : ℕ) (c : Controller) (image : List ℕ)
+    → (entryOf (b .opcode) .command ≡ FormatDrive → ⊥) → part 0 16 (obey choices b given area c image .image) ≡ part 0 16 image
+label-left choices b given area c image other =
+    outside-kept choices b given area c image 16 (omega arith) (λ is. absurd (other is)) .below 0 16 (omega arith)
+
+-- ---- (h) In any list from a fresh controller, on any images, parameters are pending exactly where the label does not hold them
+module _ (image0 image1 : List ℕ) (orders : List Order) (answers : List Reply) (s : State) (runs : Runs (begin image0 image1) orders answers s)
+    (drive : ℕ) (known : driveAt (s .controller) drive .known ≡ true) where
+  pending-labels : driveAt (s .controller) drive .pending
+      ≡ not (labelHolds (imageOf drive (s .image0) (s .image1)) (driveAt (s .controller) drive .config))
+  pending-labels = from-fresh image0 image1 runs .drives drive known
+
+  -- so a drive whose parameters are in force and not pending has those that its label holds
+  settled-labels : driveAt (s .controller) drive .pending ≡ false
+      → labelHolds (imageOf drive (s .image0) (s .image1)) (driveAt (s .controller) drive .config) ≡ true
+  settled-labels calm = not-false _ (sym pending-labels ∙ calm)

@@ -13,7 +13,7 @@ use Rattle.geometry.specs.declared.params.Params.{Params}
 use Rattle.geometry.specs.declared.config.Setting.{Setting}
 use Rattle.geometry.specs.declared.config.Setting.the-variants.{Valid, Invalid}
 use Rattle.geometry.specs.Params.{imageLength, trackCount, trackOf, cylinderOf, headOf, sectorOf}
-use Rattle.geometry.specs.Config.{sizeFor, fittedTo, settingBy, settingOf}
+use Rattle.geometry.specs.Config.{sizeFor, fittedTo, settingBy, settingOf, isValid}
 use Rattle.interleave.specs.Layout.{emptyFrom, put, place, laid, layoutOf}
 use Rattle.track.specs.declared.id.State.the-variants.{Moved, Taken}
 use Rattle.track.specs.Id.{track, flagOf, partnerOf, idBytes, idIn, idFor, ownId}
@@ -25,7 +25,7 @@ use Rattle.model.specs.declared.record.Controller.{Controller}
 use Rattle.model.specs.declared.verdict.Verdict.the-variants.{Faulty, Passed}
 use Rattle.model.specs.Block.{blockOf, countOf}
 use Rattle.model.specs.Table.{entryOf}
-use Rattle.model.specs.Checks.{View, judged, presentWith, controlWrong, isValid, reach, testsWith, tests, sizeIn, bytesOf, lengthsWith, judge}
+use Rattle.model.specs.Checks.{View, judged, presentWith, controlWrong, reach, testsWith, tests, sizeIn, bytesOf, lengthsWith, judge}
 use Rattle.model.specs.Sense.{addressed, senseOf}
 use Rattle.model.specs.Record.{blankDrive, driveAt, withDrive, sensed, withSense, settingIn}
 use Rattle.model.specs.Record.{bareOutcome, failedOutcome, goodOutcome, Effect, failed, good, unless}

@@ -6,13 +6,13 @@ use mathlib.Core.List.{List, [], _∷_, _++_, map}
 use lib.ListN.{replicate}
 use Rattle.base.specs.Pick.{pick}
 use Rattle.geometry.specs.declared.params.Lba.{Lba}
-use Rattle.geometry.specs.Config.{sizeFor, fittedTo, settingBy, settingOf}
+use Rattle.geometry.specs.Config.{sizeFor, fittedTo, settingBy, settingOf, isValid}
 use Rattle.model.specs.declared.block.Block.{Block}
 use Rattle.model.specs.declared.verdict.Verdict.{Verdict}
 use Rattle.model.specs.declared.verdict.Verdict.the-variants.{Refused, Faulty, Passed}
 use Rattle.model.specs.Block.{blockOf, countOf, fromBuffer, alternateOf}
 use Rattle.model.specs.Table.{entryOf}
-use Rattle.model.specs.Checks.{View, judged, presentWith, controlWrong, isValid, reach, testsWith, tests, sizeIn, bytesOf, lengthsWith, judge}
+use Rattle.model.specs.Checks.{View, judged, presentWith, controlWrong, reach, testsWith, tests, sizeIn, bytesOf, lengthsWith, judge}
 use Rattle.model.specs.Sense.{addressed, senseOf}
 use Rattle.model.specs.Calls.{command}
 use Rattle.model.specs.Record.{settingIn, bareOutcome, failedOutcome, failed, unless}

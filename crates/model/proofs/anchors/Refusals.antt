@@ -1,7 +1,7 @@
--- Numbers 1, 2 and 3 and no others refuse, and a refusal changes nothing at all.
+-- How a command ends. Numbers 1, 2 and 3 and no others refuse, and a refusal changes nothing at all.
 use Prim.Native.Nat.{ℕ, _≤_}
 use mathlib.Core.Path.{_≡_, refl, sym, _∙_}
-use mathlib.Core.Bool.{Bool, true, false, true≢false}
+use mathlib.Core.Bool.{Bool, true, false, not, true≢false}
 use mathlib.Core.List.{List, [], _∷_}
 use native.Mathlib.Omega.{arith}
 use lib.ListN.{length}
@@ -13,6 +13,7 @@ use Rattle.geometry.specs.declared.params.Lba.{Lba}
 use Rattle.geometry.specs.declared.params.Params.{Params}
 use Rattle.geometry.specs.declared.config.Setting.{Setting}
 use Rattle.geometry.specs.declared.config.Setting.the-variants.{Valid, Invalid}
+use Rattle.geometry.specs.Config.{labelHolds}
 use Rattle.model.specs.declared.block.Block.{Block}
 use Rattle.model.specs.declared.table.Command.{Command}
 use Rattle.model.specs.declared.table.Command.the-variants.{TestReady, Recalibrate, RequestSense, FormatDrive, CheckTrack, FormatTrack, FormatBadTrack, Read, Write, Seek, AssignAlternate, WriteBuffer, ReadBuffer, Initialize, Unknown}
@@ -20,11 +21,13 @@ use Rattle.model.specs.declared.record.Controller.{Controller}
 use Rattle.model.specs.declared.verdict.Verdict.{Verdict}
 use Rattle.model.specs.declared.verdict.Verdict.the-variants.{Refused, Faulty, Passed}
 use Rattle.model.specs.Block.{blockOf}
+use Rattle.model.specs.Table.{entryOf}
 use Rattle.model.specs.Checks.{Test, View, judged, lengthsWith, judge}
-use Rattle.model.specs.Record.{bareOutcome, failedOutcome, goodOutcome, Effect, refused, failed, good, unless}
+use Rattle.model.specs.Record.{driveAt, withDrive, withBuffer, withSense, bareOutcome, failedOutcome, goodOutcome}
+use Rattle.model.specs.Record.{Effect, refused, failed, good, unless}
 use Rattle.model.specs.Transfer.{Transfer, transferred}
-use Rattle.model.specs.Commands.{requestSense, formatDrive, checkTrack, formatTrack, read, write, assignAlternate}
-use Rattle.model.specs.Commands.{initializedBy, initialize, onDisk, carryOut}
+use Rattle.model.specs.Commands.{requestSense, settled, formatDrive, checkTrack, formatTrack, read, write, assignAlternate}
+use Rattle.model.specs.Commands.{initialized, initializedBy, initialize, onDisk, carryOut}
 use Rattle.model.specs.Engine.{obey, Result, imageOf, left, execute}
 
 -- ---- Verdicts: the order of checks refuses with 2 or 3 only, own checks never
@@ -48,81 +51,81 @@ judge-by : (b : Block) (v : View) (given area : ℕ) → Verdicts true (judge b 
 unfolding judge lengthsWith
 judge-by b v given area = judged-by _ (picked _ second (picked _ third pass))
 
--- ---- A command's own checks and what it does answer with number 0
-Zero : Effect → Type 0
-Zero e = e .outcome .answer .number ≡ 0
+-- ---- How a command ends
+-- what it makes of the controller: apart from the sense, only Initialize and Format Drive change a drive's entry
+pub data Makes (drive : ℕ) (c : Controller) (image : List ℕ) (command : Command) : Controller → Type 0 where
+  nothing : Makes drive c image command c
+  buffer : (bytes : List ℕ) → Makes drive c image command (withBuffer bytes c)
+  initial : (config : List ℕ)
+      → Makes drive c image command (withDrive drive (initialized config (not (labelHolds image config)) (driveAt c drive)) c)
+  formatted : command ≡ FormatDrive → Makes drive c image command (withDrive drive (settled (driveAt c drive)) c)
+  sense : (bytes : List ℕ) {d : Controller} → Makes drive c image command d → Makes drive c image command (withSense drive bytes d)
 
-own-zero : {v : Verdict} (b : Block) (c : Controller) (image : List ℕ) (e : Effect) → Verdicts false v → Zero e → Zero (unless v b c image e)
-unfolding Zero unless failed failedOutcome
-own-zero b c image e (fault code) z = refl
-own-zero b c image e pass z = z
+pub data Ends (b : Block) (c : Controller) (image : List ℕ) (command : Command) (e : Effect) : Type 0 where
+  ended : e .outcome .answer .number ≡ 0 → Makes (b .drive) c image command (e .outcome .controller) → Ends b c image command e
 
-module _ (b : Block) (c : Controller) (image : List ℕ) where
-  good-zero : (sectors : ℕ) (handed : List ℕ) (d : Controller) (after : List ℕ) → Zero (good b sectors handed d after)
-  unfolding Zero good goodOutcome
-  good-zero sectors handed d after = refl
+module _ {b : Block} {c : Controller} {image : List ℕ} {command : Command} where
+  -- by a command's own checks, and by whether there are parameters
+  own : {v : Verdict} {e : Effect} → Verdicts false v → Ends b c image command e → Ends b c image command (unless v b c image e)
+  unfolding unless failed failedOutcome
+  own (fault code) h = ended refl (sense _ nothing)
+  own pass h = h
 
-  failed-zero : (code : ℕ) (at : Lba) (sectors : ℕ) (handed : List ℕ) (d : Controller) (after : List ℕ) → Zero (failed b code at sectors handed d after)
-  unfolding Zero failed failedOutcome
-  failed-zero code at sectors handed d after = refl
+  disk : (s : Setting) (run : Params → Effect) → ((p : Params) → Ends b c image command (run p)) → Ends b c image command (onDisk s b c image run)
+  unfolding onDisk failed failedOutcome
+  disk Invalid run h = ended refl (sense _ nothing)
+  disk (Valid p) run h = h p
 
-  sense-zero : Zero (requestSense b c image)
-  unfolding Zero requestSense good goodOutcome
-  sense-zero = refl
-
-  disk-zero : (s : Setting) (run : Params → Effect) → ((p : Params) → Zero (run p)) → Zero (onDisk s b c image run)
-  unfolding onDisk
-  disk-zero Invalid run h = failed-zero _ _ _ _ _ _
-  disk-zero (Valid p) run h = h p
-
-  picked-zero : (t : Bool) (x y : Effect) → Zero x → Zero y → Zero (pick t x y)
+  chosen : (t : Bool) {x y : Effect} → Ends b c image command x → Ends b c image command y → Ends b c image command (pick t x y)
   unfolding pick
-  picked-zero true x y hx hy = hx
-  picked-zero false x y hx hy = hy
+  chosen true hx hy = hx
+  chosen false hx hy = hy
 
-  transferred-zero : (x : Transfer) → Zero (transferred b c x)
-  unfolding transferred
-  transferred-zero x = picked-zero _ _ _ (good-zero _ _ _ _) (failed-zero _ _ _ _ _ _)
+  moved : (x : Transfer) → Ends b c image command (transferred b c x)
+  unfolding transferred good goodOutcome failed failedOutcome
+  moved x = chosen _ (ended refl (sense _ (buffer _))) (ended refl (sense _ (buffer _)))
 
-  initialized-zero : (s : Setting) (config : List ℕ) → Zero (initializedBy s b config c image)
-  unfolding initializedBy
-  initialized-zero Invalid config = failed-zero _ _ _ _ _ _
-  initialized-zero (Valid p) config = good-zero _ _ _ _
+  configured : (s : Setting) (config : List ℕ) → Ends b c image command (initializedBy s b config c image)
+  unfolding initializedBy good goodOutcome failed failedOutcome
+  configured Invalid config = ended refl (sense _ nothing)
+  configured (Valid p) config = ended refl (sense _ (initial config))
 
-  carried-zero : (choices given : List ℕ) (s : Setting) (command : Command) → Zero (carryOut choices b s given c image command)
-  unfolding carryOut formatDrive checkTrack formatTrack read write assignAlternate initialize
-  carried-zero choices given s TestReady = good-zero _ _ _ _
-  carried-zero choices given s Recalibrate = good-zero _ _ _ _
-  carried-zero choices given s RequestSense = sense-zero
-  carried-zero choices given s FormatDrive = disk-zero s _ (λ p. own-zero b c image _ (judged-by _ pass) (good-zero _ _ _ _))
-  carried-zero choices given s CheckTrack = disk-zero s _ (λ p. own-zero b c image _ (judged-by _ pass) (good-zero _ _ _ _))
-  carried-zero choices given s FormatTrack = disk-zero s _ (λ p. own-zero b c image _ (judged-by _ pass) (good-zero _ _ _ _))
-  carried-zero choices given s FormatBadTrack = disk-zero s _ (λ p. own-zero b c image _ (judged-by _ pass) (good-zero _ _ _ _))
-  carried-zero choices given s Read = disk-zero s _ (λ p. transferred-zero _)
-  carried-zero choices given s Write = disk-zero s _ (λ p. transferred-zero _)
-  carried-zero choices given s Seek = good-zero _ _ _ _
-  carried-zero choices given s AssignAlternate = disk-zero s _ (λ p. own-zero b c image _ (judged-by _ pass) (good-zero _ _ _ _))
-  carried-zero choices given s WriteBuffer = good-zero _ _ _ _
-  carried-zero choices given s ReadBuffer = good-zero _ _ _ _
-  carried-zero choices given s Initialize = initialized-zero _ _
-  carried-zero choices given s Unknown = failed-zero _ _ _ _ _ _
+module _ (choices : List ℕ) (b : Block) (s : Setting) (given : List ℕ) (c : Controller) (image : List ℕ) where
+  carried-ends : (command : Command) → Ends b c image command (carryOut choices b s given c image command)
+  unfolding carryOut requestSense formatDrive checkTrack formatTrack read write assignAlternate initialize good goodOutcome failed failedOutcome
+  carried-ends TestReady = ended refl (sense _ nothing)
+  carried-ends Recalibrate = ended refl (sense _ nothing)
+  carried-ends RequestSense = ended refl nothing
+  carried-ends FormatDrive = disk s _ (λ p. own (judged-by _ pass) (ended refl (sense _ (formatted refl))))
+  carried-ends CheckTrack = disk s _ (λ p. own (judged-by _ pass) (ended refl (sense _ nothing)))
+  carried-ends FormatTrack = disk s _ (λ p. own (judged-by _ pass) (ended refl (sense _ nothing)))
+  carried-ends FormatBadTrack = disk s _ (λ p. own (judged-by _ pass) (ended refl (sense _ nothing)))
+  carried-ends Read = disk s _ (λ p. moved _)
+  carried-ends Write = disk s _ (λ p. moved _)
+  carried-ends Seek = ended refl (sense _ nothing)
+  carried-ends AssignAlternate = disk s _ (λ p. own (judged-by _ pass) (ended refl (sense _ nothing)))
+  carried-ends WriteBuffer = ended refl (sense _ (buffer _))
+  carried-ends ReadBuffer = ended refl (sense _ nothing)
+  carried-ends Initialize = configured _ _
+  carried-ends Unknown = ended refl (sense _ nothing)
 
--- ---- So a command is refused with 2 or 3 and leaves controller and image, or it has number 0
-data Obeyed (c : Controller) (image : List ℕ) (e : Effect) : Type 0 where
-  answered : Zero e → Obeyed c image e
-  denied : (number : ℕ) → 2 ≤ number → number ≤ 3 → e ≡ refused number c image → Obeyed c image e
+-- ---- So a command is refused with 2 or 3 and leaves controller and image, or it ends with number 0
+pub data Obeyed (b : Block) (c : Controller) (image : List ℕ) (command : Command) (e : Effect) : Type 0 where
+  answered : Ends b c image command e → Obeyed b c image command e
+  denied : (number : ℕ) → 2 ≤ number → number ≤ 3 → e ≡ refused number c image → Obeyed b c image command e
 
-verdict-obeyed : {v : Verdict} (b : Block) (c : Controller) (image : List ℕ) (e : Effect) → Verdicts true v → Zero e
-    → Obeyed c image (unless v b c image e)
-unfolding unless
-verdict-obeyed b c image e second z = denied 2 (omega arith) (omega arith) refl
-verdict-obeyed b c image e third z = denied 3 (omega arith) (omega arith) refl
-verdict-obeyed b c image e (fault code) z = answered (failed-zero b c image _ _ _ _ _ _)
-verdict-obeyed b c image e pass z = answered z
+verdict-obeyed : {v : Verdict} (b : Block) (c : Controller) (image : List ℕ) (command : Command) (e : Effect) → Verdicts true v
+    → Ends b c image command e → Obeyed b c image command (unless v b c image e)
+unfolding unless failed failedOutcome
+verdict-obeyed b c image command e second h = denied 2 (omega arith) (omega arith) refl
+verdict-obeyed b c image command e third h = denied 3 (omega arith) (omega arith) refl
+verdict-obeyed b c image command e (fault code) h = answered (ended refl (sense _ nothing))
+verdict-obeyed b c image command e pass h = answered h
 
-obeyed : (choices : List ℕ) (b : Block) (given : List ℕ) (area : ℕ) (c : Controller) (image : List ℕ) → Obeyed c image (obey choices b given area c image)
+pub obeyed : (choices : List ℕ) (b : Block) (given : List ℕ) (area : ℕ) (c : Controller) (image : List ℕ)
+    → Obeyed b c image (entryOf (b .opcode) .command) (obey choices b given area c image)
 unfolding obey
-obeyed choices b given area c image = verdict-obeyed b c image _ (judge-by b _ _ _) (carried-zero b c image choices given _ _)
+obeyed choices b given area c image = verdict-obeyed b c image _ _ (judge-by b _ _ _) (carried-ends choices b _ given c image _)
 
 -- ---- All that a call leaves
 -- the images, where a command left the one that it was lent
@@ -155,11 +158,12 @@ pub data Answered (c : Controller) (area image0 image1 : List ℕ) (r : Result) 
   unchanged : (number : ℕ) → 1 ≤ number → number ≤ 3 → r ≡ unmoved c area image0 image1 number → Answered c area image0 image1 r
 
 module _ (choices : List ℕ) (c : Controller) (block given area image0 image1 : List ℕ) where
-  left-answered : (drive : ℕ) (e : Effect) → Obeyed c (imageOf drive image0 image1) e → Answered c area image0 image1 (left drive e area image0 image1)
-  unfolding Zero left refused bareOutcome splice
-  left-answered drive e (answered z) = accepted z
-  left-answered drive e (denied number least most is) =
-      let kept = images-kept drive image0 image1 in
+  left-answered : (b : Block) (command : Command) (e : Effect) → Obeyed b c (imageOf (b .drive) image0 image1) command e
+      → Answered c area image0 image1 (left (b .drive) e area image0 image1)
+  unfolding left refused bareOutcome splice
+  left-answered b command e (answered (ended number makes)) = accepted number
+  left-answered b command e (denied number least most is) =
+      let kept = images-kept (b .drive) image0 image1 in
       unchanged number (omega arith) most (rw (is, kept .0, kept .1))
 
   picked-answered : (six : Bool) (x y : Result) → Answered c area image0 image1 x → Answered c area image0 image1 y
@@ -172,5 +176,5 @@ module _ (choices : List ℕ) (c : Controller) (block given area image0 image1 :
   unfolding execute bareOutcome
   all-answered =
       picked-answered (eqb (length block) 6) _ _
-      (left-answered (blockOf block .drive) _ (obeyed choices (blockOf block) given (length area) c (imageOf (blockOf block .drive) image0 image1)))
+      (left-answered (blockOf block) _ _ (obeyed choices (blockOf block) given (length area) c (imageOf (blockOf block .drive) image0 image1)))
       (unchanged 1 (omega arith) (omega arith) refl)

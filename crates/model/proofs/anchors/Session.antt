@@ -5,10 +5,11 @@ use mathlib.Core.List.{List, [], _∷_, _++_, map}
 use lib.ListN.{take, replicate}
 use lib.Dec.{ltb}
 use Rattle.base.specs.Pick.{pick}
-use Rattle.geometry.specs.Config.{sizeFor, fittedTo, settingBy, settingOf}
+use Rattle.base.specs.Same.{sameBytes}
+use Rattle.geometry.specs.Config.{sizeFor, fittedTo, settingBy, settingOf, isValid}
 use Rattle.model.specs.Block.{blockOf, countOf, fromBuffer}
 use Rattle.model.specs.Table.{entryOf}
-use Rattle.model.specs.Checks.{judged, presentWith, controlWrong, isValid, reach, testsWith, tests, sizeIn, bytesOf, lengthsWith, judge}
+use Rattle.model.specs.Checks.{judged, presentWith, controlWrong, reach, testsWith, tests, sizeIn, bytesOf, lengthsWith, judge}
 use Rattle.model.specs.Sense.{addressed, senseOf}
 use Rattle.model.specs.Calls.{Call, reset, command, Reply}
 use Rattle.model.specs.Machine.{freshDisk, freshMachine, changed, withSense, withBuffer, withDisk, inForce, becomes, filled, storing}
@@ -16,7 +17,7 @@ use Rattle.model.specs.Machine.{failing, well, providing}
 use Rattle.model.specs.Machine.{isBad, isMoved, isTaken, denied, paired, parted, partedBy, someParted, addressGiven, unassignable}
 use Rattle.model.specs.Machine.{finished, withFirst, passing, readFrom, writeFrom, inARow, leaving, transferBy, transfer}
 use Rattle.model.specs.Machine.{plain, filling, fromOn, reformatted}
-use Rattle.model.specs.Machine.{formatDrive, checkTrack, formatTrack, formatBadTrack, read, write, assignTo, assignAlternate, initializeBy}
+use Rattle.model.specs.Machine.{formatDrive, checkTrack, formatTrack, formatBadTrack, read, write, assignTo, assignAlternate, isStored, initializeBy}
 use Rattle.model.specs.Machine.{withParameters, carried, settingWith, seen, ordered, restored, step}
 use Rattle.model.specs.Claim.{replies}
 
@@ -112,6 +113,17 @@ after =
     ∷ record { call = reset; answer = says 0 0 0 0 [] }
     ∷ sent (six 0x08 0 0 31 1 0) [] (says 0 0 1 256 (four 7 7 7 7))
     ∷ sent (six 0x08 0 0 64 1 0) [] (says 0 0 1 256 (four 0x6C 0x6C 0x6C 0x6C))
+    -- the stored bytes: at once a Read works
+    ∷ sent (six 0x11 0 0 0 0 0) (config 3) (says 0 0 0 0 [])
+    ∷ sent (six 0x08 0 0 31 1 0) [] (says 0 0 1 256 (four 7 7 7 7))
+    -- others are pending; the stored ones end that, and a byte too many is not looked at
+    ∷ sent (six 0x11 0 0 0 0 0) (config 2) (says 0 0 0 0 [])
+    ∷ sent (six 0x08 0 0 31 1 0) [] (says 0 2 0 0 [])
+    ∷ senses 0 0x16 0 0 0
+    ∷ sent (six 0x11 0 0 0 0 0) (config 3 ++ (1 ∷ [])) (says 0 0 0 0 [])
+    ∷ sent (six 0x08 0 0 31 1 0) [] (says 0 0 1 256 (four 7 7 7 7))
+    -- nine of them are too few
+    ∷ sent (six 0x11 0 0 0 0 0) (take 9 (config 3)) (says 2 0 0 0 [])
     -- four tracks are too many for the image
     ∷ sent (six 0x11 0 0 0 0 0) (config 4) (says 0 2 0 0 [])
     ∷ senses 0 0x22 0 0 0
@@ -149,10 +161,10 @@ pub answers : List (List ℕ)
 answers = map (λ (l : Line). l .answer) (frames ++ (three ++ after))
 
 pub worked : map brief (replies (freshMachine (lengths 25360)) calls) ≡ answers
-unfolding brief says four six config sent senses frames three after lengths calls answers pick sizeFor fittedTo settingBy settingOf
+unfolding brief says four six config sent senses frames three after lengths calls answers pick sameBytes sizeFor fittedTo settingBy settingOf
     blockOf countOf fromBuffer entryOf judged presentWith controlWrong isValid reach testsWith tests sizeIn bytesOf lengthsWith judge
     addressed senseOf freshDisk freshMachine changed withSense withBuffer withDisk inForce becomes filled storing failing well providing
     isBad isMoved isTaken denied paired parted partedBy someParted addressGiven unassignable finished withFirst passing readFrom writeFrom
     inARow leaving transferBy transfer plain filling fromOn reformatted formatDrive checkTrack formatTrack formatBadTrack read write
-    assignTo assignAlternate initializeBy withParameters carried settingWith seen ordered restored step replies
+    assignTo assignAlternate isStored initializeBy withParameters carried settingWith seen ordered restored step replies
 worked = refl

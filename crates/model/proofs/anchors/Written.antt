@@ -8,21 +8,21 @@ use native.Mathlib.Decide.{ℕ-discrete}
 use native.Mathlib.Nat.{add-zero}
 use lib.ListN.{length, take, drop, getD, length-drop}
 use lib.Seq.{length-take-le, drop-drop}
-use Rattle.base.specs.Part.{part}
 use Rattle.geometry.specs.declared.params.Track.{Track}
 use Rattle.geometry.specs.declared.params.Params.{Params}
+use Rattle.geometry.specs.declared.config.Setting.the-variants.{Valid}
 use Rattle.geometry.specs.Params.{Within, trackCount, trackSize, imageLength, trackOf}
 use Rattle.track.specs.declared.find.Where.{Where}
 use Rattle.track.specs.declared.find.Where.the-variants.{On, Off}
 use Rattle.track.specs.Image.{trackBytes, withTrack, slotId, slotData, withData}
 use Rattle.track.specs.Find.{Sector, Slot, Fault, whereOf, slotUsed, sectorIn, sectorFrom, sectorFound}
-use Rattle.track.proofs.Images.{length-track, track-same, track-other, label-kept, length-with-data, data-other}
+use Rattle.track.proofs.Images.{length-track, track-same, track-other, length-with-data, data-other}
 use Rattle.track.proofs.Finds.{where-in}
 use Rattle.track.proofs.Choices.{only-used}
 use Rattle.track.proofs.SameIds.{SameIds, found-same, data-keeps}
 use Rattle.model.specs.Transfer.{Transfer, ended, writeSlot, onward, found, writing}
 use Rattle.model.proofs.Addresses.{track-in}
-use Rattle.model.proofs.anchors.Untouched.{Past, past-self, past-then, track-past}
+use Rattle.model.proofs.anchors.Untouched.{Outside, outside-self, outside-then, track-outside}
 
 -- ---- A slot that is found is one of the drive
 used-in : (choice : ℕ) (p : Params) (s : ℕ) (image : List ℕ) (v u : Track) (k : ℕ) (o : Option ℕ) → slotUsed choice p s (trackBytes p v image) ≡ o
@@ -52,15 +52,13 @@ abbrev Finds : Params → (choices : List ℕ) → (a i : ℕ) → (image : List
 Finds p choices a i image t k = found (drop i choices) p (a + i) image ≡ Slot t k
 
 pub record Written (p : Params) (choices : List ℕ) (n a : ℕ) (before after : List ℕ) : Type 0 where
-  pub past : Past p before after
-  pub label : (at size : ℕ) → at + size ≤ 16 → part at size after ≡ part at size before
+  pub outside : Outside 16 (Valid p) before after
   pub ids : (t : Track) (k : ℕ) → t .0 < trackCount p → k < p .sectors → slotId p k (trackBytes p t after) ≡ slotId p k (trackBytes p t before)
   pub others : (t : Track) (k : ℕ) → t .0 < trackCount p → k < p .sectors → ((i : ℕ) → i < n → Finds p choices a i before t k → ⊥)
       → slotData p k (trackBytes p t after) ≡ slotData p k (trackBytes p t before)
 
 written-none : (p : Params) (choices : List ℕ) (n a : ℕ) (image : List ℕ) → Written p choices n a image image
-written-none p choices n a image =
-    record { past = past-self p image; label = λ at size h. refl; ids = λ t k ht hk. refl; others = λ t k ht hk no. refl }
+written-none p choices n a image = record { outside = outside-self 16 (Valid p) image; ids = λ t k ht hk. refl; others = λ t k ht hk no. refl }
 
 -- one sector in slot j of track u
 module _ (p : Params) (image : List ℕ) (fits : imageLength p ≤ length image) (u : Track) (j : ℕ) (hu : u .0 < trackCount p) (hj : j < p .sectors)
@@ -74,11 +72,8 @@ module _ (p : Params) (image : List ℕ) (fits : imageLength p ≤ length image)
   lw : length (withData p j sector (trackBytes p u image)) ≡ trackSize p
   lw = length-with-data p (trackBytes p u image) lt j sector hj ls
 
-  stored-past : Past p image stored
-  stored-past = track-past p image fits u _ hu (omega (arith, lw))
-
-  stored-label : (at size : ℕ) → at + size ≤ 16 → part at size stored ≡ part at size image
-  stored-label = label-kept p image fits u _ hu lw
+  stored-outside : Outside 16 (Valid p) image stored
+  stored-outside = track-outside 16 p image fits (omega arith) u _ hu (omega (arith, lw))
 
   stored-ids : SameIds p stored image
   stored-ids = data-keeps p image u j sector fits hu hj ls
@@ -122,8 +117,7 @@ module _ (p : Params) (w : Within p) where
 
     written-more : (after : List ℕ) → Written p (drop 1 choices) n (suc a) now after → Written p choices (suc n) a image after
     written-more after rest = record {
-      past = past-then p image now after (stored-past p image fits u j hu hj sector ls) (rest .past);
-      label = λ at size h. rest .label at size h ∙ stored-label p image fits u j hu hj sector ls at size h;
+      outside = outside-then 16 (Valid p) image now after (stored-outside p image fits u j hu hj sector ls) (rest .outside);
       ids = λ t k ht hk. rest .ids t k ht hk ∙ stored-ids p image fits u j hu hj sector ls .ids t k ht hk;
       others = λ t k ht hk no.
           rest .others t k ht hk (λ i l q. no (suc i) (omega arith) (later i t k l q))
@@ -143,7 +137,7 @@ module _ (p : Params) (w : Within p) where
     step rest (Slot u j) e =
         let whole : length (take (p .size) given) ≡ p .size = length-take-le (p .size) given (omega arith) in
         let at = found-in (getD choices 0 0) p _ _ (x .image) (track-in p w (record { 0 = a }) (omega arith)) u j e in
-        let kept = stored-past p (x .image) fits u j (at .0) (at .1) (take (p .size) given) whole in
+        let kept = stored-outside p (x .image) fits u j (at .0) (at .1) (take (p .size) given) whole in
         written-more choices n a (x .image) fits inside u j e (at .0) (at .1) (take (p .size) given) whole _ (rest _ (rw (kept .len) fits))
 
   pub writes : (n a : ℕ) (choices given : List ℕ) (x : Transfer) → imageLength p ≤ length (x .image) → a + n ≤ trackCount p * p .sectors

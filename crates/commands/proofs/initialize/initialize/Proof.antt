@@ -9,6 +9,7 @@ use Rattle.control.proofs.record.drive_at.Reads as drive-at-reads
 use Rattle.control.proofs.record.failed.Reads as failed-reads
 use Rattle.control.proofs.record.good.Reads as good-reads
 use Rattle.control.proofs.record.with_drive.Reads as with-drive-reads
+use Rattle.geometry.proofs.config.label_holds.Reads as label-holds-reads
 use Rattle.geometry.proofs.config.setting_of.Reads as setting-of-reads
 
 -- src/initialize.rt:35:9
@@ -35,6 +36,10 @@ enum-told-2 c = search needs
 drive-at-requires : tie.Need-drive-at-requires
 drive-at-requires c κs = search needs
 
+-- src/initialize.rt:48:27
+label-holds-requires : tie.Need-label-holds-requires
+label-holds-requires c κs = search needs
+
 -- src/initialize.rt:49:18
 with-drive-requires : tie.Need-with-drive-requires
 with-drive-requires c κs = search needs
@@ -52,10 +57,11 @@ returns c buffer =
 -- src/initialize.rt:31:1
 returns-2 : tie.Need-returns-2
 returns-2 c buffer =
-    let d = c .before .before .before in
+    let h = c .before .before in
+    let d = h .before .before in
     let s = d .before .before .before in
     initialize-valid _ _ _ _ _ _ _ (s .before .config-of .ensures) (s .setting-of .ensures) _ (d .before .enum-told2 .given .1)
-    _ (d .drive-at .ensures) _ (c .before .with-drive .ensures) (c .good2 .ensures buffer)
+    _ (d .drive-at .ensures) _ (h .label-holds .ensures) _ (c .before .with-drive .ensures) (c .good2 .ensures buffer)
 
 pub initialize-spec : {M : Type 1} → statement M
 initialize-spec =
@@ -67,6 +73,7 @@ initialize-spec =
     failed-requires
     enum-told-2
     drive-at-requires
+    label-holds-requires
     with-drive-requires
     good-requires
     returns

@@ -1,5 +1,5 @@
 use borrow.Author.Needs.{needs}
-use Rattle.model.specs.Checks.{isValid}
+use Rattle.geometry.specs.Config.{isValid}
 use Rattle.control.proofs.checks.is_valid.Statement.{statement}
 use Rattle.control.proofs.checks.is_valid.Tie as tie
 use Rattle.control.proofs.checks.is_valid.Reads as reads

@@ -1,5 +1,6 @@
 use borrow.Author.Needs.{needs}
-use Rattle.engine.proofs.Resets.{label-long, load-invalid, load-valid}
+use Rattle.geometry.proofs.Labels.{label-long}
+use Rattle.engine.proofs.Resets.{load-invalid, load-valid}
 use mathlib.Core.Path.{_∙_}
 use Rattle.engine.proofs.reset.load.Statement.{statement}
 use Rattle.engine.proofs.reset.load.Tie as tie

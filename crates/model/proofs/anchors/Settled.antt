@@ -1,0 +1,149 @@
+-- Parameters are pending exactly when the label does not hold them: fresh, and after every call, whatever the images.
+use Prim.Native.Nat.{ℕ, _<_}
+use mathlib.Core.Path.{_≡_, refl, sym, ap, _∙_}
+use mathlib.Core.Bool.{Bool, true, false, not}
+use mathlib.Core.List.{List, []}
+use native.Mathlib.Omega.{arith}
+use native.Mathlib.Decide.{ℕ-discrete}
+use lib.ListN.{length}
+use lib.Dec.{eqb}
+use Rattle.base.specs.Pick.{pick}
+use Rattle.geometry.specs.declared.params.Lba.{Lba}
+use Rattle.geometry.specs.declared.config.Setting.{Setting}
+use Rattle.geometry.specs.declared.config.Setting.the-variants.{Valid, Invalid}
+use Rattle.geometry.specs.Config.{settingOf, labelHolds}
+use Rattle.model.specs.declared.block.Block.{Block}
+use Rattle.model.specs.declared.table.Command.{Command}
+use Rattle.model.specs.declared.table.Command.the-variants.{FormatDrive}
+use Rattle.model.specs.declared.table.Entry.{Entry}
+use Rattle.model.specs.declared.record.Drive.{Drive}
+use Rattle.model.specs.declared.record.Controller.{Controller}
+use Rattle.model.specs.declared.verdict.Verdict.{Verdict}
+use Rattle.model.specs.declared.verdict.Verdict.the-variants.{Refused, Faulty, Passed}
+use Rattle.model.specs.Block.{blockOf}
+use Rattle.model.specs.Table.{entryOf}
+use Rattle.model.specs.Checks.{judge}
+use Rattle.model.specs.Calls.{Reply}
+use Rattle.model.specs.Record.{driveAt, withDrive, settingIn, bareOutcome, failedOutcome, goodOutcome}
+use Rattle.model.specs.Record.{Effect, refused, failed, good, unless}
+use Rattle.model.specs.Commands.{settled, formatDrive, onDisk, carryOut}
+use Rattle.model.specs.Engine.{viewOf, obey, Result, imageOf, left, execute, Executed, resetOf}
+use Rattle.model.specs.Machine.{changed}
+use Rattle.model.specs.Claim.{State, Order, Calls, by-reset, by-execute, Runs, end, next, begin}
+use Rattle.model.proofs.Ends.{changed-back}
+use Rattle.model.proofs.Checked.{opcodeFor, row-of}
+use Rattle.model.proofs.Current.{setting-known}
+use Rattle.model.proofs.Called.{left-images, drive-below}
+use Rattle.model.proofs.anchors.Refusals.{Makes, nothing, buffer, initial, formatted, sense, ended, Obeyed, answered, denied, obeyed}
+use Rattle.model.proofs.anchors.Beyond.{format-label, outside-kept}
+use Rattle.model.proofs.anchors.Labelled.{Labelled, initialized-settled, format-holds, holds-kept, fresh-labelled}
+use Rattle.model.proofs.anchors.Labelled.{images-labelled, buffer-labelled, image-labelled, entry-labelled, both-labelled, sense-labelled}
+
+-- ---- Commands
+format? : (opcode : ℕ) → Dec (entryOf opcode .command ≡ FormatDrive)
+unfolding entryOf opcodeFor
+format? opcode = by (ℕ-discrete (opcodeFor (entryOf opcode .command)) 4)
+  where
+    by : Dec (opcodeFor (entryOf opcode .command) ≡ 4) → Dec (entryOf opcode .command ≡ FormatDrive)
+    by (yes e) = yes (ap (λ (r : Entry). r .command) (row-of opcode ∙ ap entryOf e))
+    by (no ne) = no (λ is. ne (ap opcodeFor is))
+
+module _ (choices : List ℕ) (b : Block) (given : List ℕ) (area : ℕ) (h : b .drive < 4) (c : Controller) (images : ℕ → List ℕ)
+    (labelled : Labelled c images) where
+  abbrev entry : Drive
+  entry = driveAt c (b .drive)
+
+  abbrev image : List ℕ
+  image = images (b .drive)
+
+  -- one but Format Drive: the controller, by the label as it was
+  module _ (command : Command) (other : command ≡ FormatDrive → ⊥) where
+    makes-labelled : {d : Controller} → Makes (b .drive) c image command d → Labelled d images
+    makes-labelled nothing = labelled
+    makes-labelled (buffer bytes) = buffer-labelled c images labelled bytes
+    makes-labelled (initial config) = entry-labelled c images labelled (b .drive) h _ (initialized-settled config entry image)
+    makes-labelled (formatted is) = absurd (other is)
+    makes-labelled (sense bytes m) = sense-labelled _ images (makes-labelled m) (b .drive) h bytes
+
+    obeyed-labelled : (e : Effect) → Obeyed b c image command e → Labelled (e .outcome .controller) images
+    unfolding refused bareOutcome
+    obeyed-labelled e (answered (ended number makes)) = makes-labelled makes
+    obeyed-labelled e (denied number least most is) = rw is labelled
+
+  -- controller and image
+  abbrev Leaves : Effect → Type 0
+  Leaves e = Labelled (e .outcome .controller) (changed images (b .drive) (e .image))
+
+  failed-leaves : (code : ℕ) (at : Lba) → Leaves (failed b code at 0 [] c image)
+  unfolding failed failedOutcome
+  failed-leaves code at = images-labelled _ images (sense-labelled c images labelled (b .drive) h _) _ (changed-back images (b .drive))
+
+  unless-leaves : (v : Verdict) (e : Effect) → (v ≡ Passed → Leaves e) → Leaves (unless v b c image e)
+  unfolding unless refused bareOutcome
+  unless-leaves (Refused number) e new = images-labelled c images labelled _ (changed-back images (b .drive))
+  unless-leaves (Faulty code at) e new = failed-leaves code at
+  unless-leaves Passed e new = new refl
+
+  -- Format Drive
+  format-leaves : (after : List ℕ) → labelHolds after (entry .config) ≡ true → Leaves (good b 0 [] (withDrive (b .drive) (settled entry) c) after)
+  unfolding good goodOutcome settled
+  format-leaves after holds =
+      let renewed = both-labelled c images labelled (b .drive) h (settled entry) after (λ known. sym (ap not holds)) in
+      sense-labelled _ _ renewed (b .drive) h _
+
+  carried-leaves : entryOf (b .opcode) .command ≡ FormatDrive → judge b (viewOf entry (length image)) (length given) area ≡ Passed
+      → (s : Setting) → settingIn entry (length image) ≡ s → Leaves (carryOut choices b s given c image FormatDrive)
+  unfolding carryOut onDisk formatDrive
+  carried-leaves is passed Invalid e = failed-leaves 0x0A (b .address)
+  carried-leaves is passed (Valid p) e =
+      let made = format-label b given area c image passed p e is in
+      let valid = ap (settingOf (entry .config)) (made .0) ∙ setting-known entry (length image) p e in
+      unless-leaves _ _ (λ ok. format-leaves _ (format-holds (entry .config) _ p (made .1) valid))
+
+  obey-leaves : Dec (entryOf (b .opcode) .command ≡ FormatDrive) → Leaves (obey choices b given area c image)
+  unfolding obey
+  obey-leaves (yes is) = unless-leaves _ _ (λ passed. rw is (carried-leaves is passed _ refl))
+  obey-leaves (no other) =
+      let made = obeyed-labelled _ other _ (obeyed choices b given area c image) in
+      let kept = outside-kept choices b given area c image 16 (omega arith) (λ is. absurd (other is)) in
+      image-labelled _ images made (b .drive) _ (λ known.
+      made .drives (b .drive) known ∙ ap not (sym (holds-kept image _ _ (record { len = kept .len; label = kept .below }))))
+
+-- ---- Calls
+abbrev AllLabelled : State → Type 0
+AllLabelled s = Labelled (s .controller) (λ d. imageOf d (s .image0) (s .image1))
+
+abbrev stateOf : Result → State
+stateOf r = record { controller = r .outcome .controller; image0 = r .image0; image1 = r .image1 }
+
+module _ (choices : List ℕ) (c : Controller) (block given area image0 image1 : List ℕ) (labelled : Labelled c (λ d. imageOf d image0 image1)) where
+  six-labelled : (six : Bool) (r : Result) → AllLabelled (stateOf r)
+      → AllLabelled (stateOf (pick six r (record { outcome = bareOutcome 1 c; area = area; image0 = image0; image1 = image1 })))
+  unfolding pick bareOutcome
+  six-labelled true r new = new
+  six-labelled false r new = labelled
+
+  execute-labelled : AllLabelled (stateOf (execute choices c block given area image0 image1))
+  unfolding execute left
+  execute-labelled =
+      let b = blockOf block in
+      let len = outside-kept choices b given (length area) c (imageOf (b .drive) image0 image1) 0 (omega arith) (λ is. refl) .len in
+      six-labelled (eqb (length block) 6) _
+      (images-labelled _ _
+      (obey-leaves choices b given (length area) (drive-below block) c (λ d. imageOf d image0 image1) labelled (format? (b .opcode)))
+      _ (left-images (b .drive) _ image0 image1 len))
+
+call-labelled : {s t : State} {order : Order} {reply : Reply} → Calls s order reply t → AllLabelled s → AllLabelled t
+unfolding Executed resetOf bareOutcome
+call-labelled (by-reset {s} outcome is) labelled = rw is (fresh-labelled (s .image0) (s .image1))
+call-labelled (by-execute {s} {block} {given} {area} result executed) labelled =
+    rw (executed .1) (execute-labelled (executed .0) (s .controller) block given area (s .image0) (s .image1) labelled)
+
+run-labelled : {s t : State} {orders : List Order} {answers : List Reply} → Runs s orders answers t → AllLabelled s → AllLabelled t
+run-labelled end labelled = labelled
+run-labelled (next call rest) labelled = run-labelled rest (call-labelled call labelled)
+
+pub from-fresh : (image0 image1 : List ℕ) {orders : List Order} {answers : List Reply} {s : State} → Runs (begin image0 image1) orders answers s
+    → AllLabelled s
+unfolding begin
+from-fresh image0 image1 runs = run-labelled runs (fresh-labelled image0 image1)
