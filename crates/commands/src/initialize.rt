@@ -40,12 +40,12 @@ pub fn initialize(drives: [Drive; 4], b: Block, given: &[u8], image: &[u8]) -> E
         Setting::Valid(_) => {
             let entry = drive_at(drives, drive);
             let sense = entry.sense;
-            let stored = label_holds(image, config);
+            let holds = label_holds(image, config);
             let next = Drive {
                 sense: sense,
                 config: config,
                 known: true,
-                pending: !stored,
+                pending: !holds,
             };
             good(with_drive(drives, drive, next), drive, 0, 0)
         }

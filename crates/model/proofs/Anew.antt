@@ -3,18 +3,16 @@ use Prim.Native.Nat.{ℕ, _<_}
 use mathlib.Core.Path.{_≡_, refl, sym, ap, subst, _∙_}
 use mathlib.Core.Logic.{_⊎_, inl, inr}
 use mathlib.Core.Bool.{false}
-use mathlib.Core.List.{List, [], _∷_}
+use mathlib.Core.List.{List, [], _++_}
 use native.Mathlib.Omega.{arith}
 use lib.ListN.{length}
 use Rattle.base.specs.Part.{part}
-use Rattle.base.specs.Same.{sameBytes}
-use Rattle.base.proofs.Decide.{pick-true}
-use Rattle.base.proofs.Sames.{same-self}
 use Rattle.geometry.specs.declared.params.Params.{Params}
 use Rattle.geometry.specs.declared.config.Setting.the-variants.{Valid}
 use Rattle.geometry.specs.Params.{trackCount, trackOf}
-use Rattle.geometry.specs.Config.{settingOf, labelSetting}
+use Rattle.geometry.specs.Config.{settingOf, labelRest}
 use Rattle.geometry.proofs.Settings.{setting-ten}
+use Rattle.geometry.proofs.Labels.{label-made}
 use Rattle.track.specs.Id.{track}
 use Rattle.track.specs.Pair.{pairSplit}
 use Rattle.model.specs.declared.block.Block.{Block}
@@ -26,7 +24,8 @@ use Rattle.model.specs.Commands.{formatDrive as formatOn}
 use Rattle.model.specs.Machine.{Disk, Machine, withDisk, someParted, filling, reformatted, formatDrive}
 use Rattle.model.proofs.Mirrors.{Mirrors}
 use Rattle.model.proofs.States.{split-zero, parted-zero, split-mirrored}
-use Rattle.model.proofs.Remaking.{drive-remade, drive-length, drive-label}
+use Rattle.model.proofs.Outside.{drive-length, drive-label}
+use Rattle.model.proofs.Remaking.{drive-remade}
 use Rattle.model.proofs.Agrees.{Stored, something, Drives, Agrees, Follows}
 use Rattle.model.proofs.Ends.{agree-drive, well-follows, verdict-follows}
 use Rattle.model.proofs.Judged.{passed-on}
@@ -37,30 +36,23 @@ settled-sense : (entry : Drive) → settled entry .sense ≡ entry .sense
 unfolding settled
 settled-sense entry = refl
 
--- ten configuration bytes and six zeros are a valid label
-pub label-made : (config after : List ℕ) (p : Params) → part 0 10 after ≡ config → part 10 6 after ≡ 0 ∷ 0 ∷ 0 ∷ 0 ∷ 0 ∷ 0 ∷ []
-    → settingOf config (length after) ≡ Valid p → labelSetting after ≡ Valid p
-unfolding labelSetting
-label-made config after p front zeros valid =
-    pick-true _ _ _ (ap (λ (l : List ℕ). sameBytes l (0 ∷ 0 ∷ 0 ∷ 0 ∷ 0 ∷ 0 ∷ [])) zeros ∙ same-self _)
-    ∙ ap (λ (l : List ℕ). settingOf l (length after)) front ∙ valid
-
 -- the drive after it: what was in force is stored, and not pending
 module _ (entry : Drive) (image : List ℕ) (u : Disk) (drive : Drives entry image u) (p : Params) (force : InForce entry image u p)
     (s inter : ℕ) (fill after : List ℕ) where
-  drive-settled : length after ≡ length image → (part 0 10 after ≡ entry .config) × (part 10 6 after ≡ 0 ∷ 0 ∷ 0 ∷ 0 ∷ 0 ∷ 0 ∷ [])
+  drive-settled : length after ≡ length image → part 0 16 after ≡ entry .config ++ labelRest
       → Mirrors p (reformatted p s inter fill u .kind) (reformatted p s inter fill u .inter) (reformatted p s inter fill u .held) after
       → Drives (settled entry) after (reformatted p s inter fill u)
   unfolding settled reformatted
   drive-settled len label mirror =
       let valid : settingOf (entry .config) (length after) ≡ Valid p = ap (settingOf (entry .config)) len ∙ force .setting in
+      let made = label-made (entry .config) after p label valid in
       record {
         len = drive .len ∙ sym len;
         force = drive .force;
         pending = refl;
         settled = λ e. refl;
         stored = subst (Stored (reformatted p s inter fill u) after) (sym (force .is))
-            (something (entry .config) p valid (label .0) (label-made (entry .config) after p (label .0) (label .1) valid) mirror);
+            (something (entry .config) p valid (made .0) (made .1) mirror);
         sense = drive .sense;
       }
 
@@ -99,12 +91,12 @@ module _ (image : ℕ → List ℕ) (b : Block) (area : List ℕ) (c : Controlle
       let lf = fill-sized b p c image m agree (force .within) in
       let ten = setting-ten (entry .config) (length (image (b .drive))) p (force .setting) in
       let after = driveFormatted b p (entry .config) fill (image (b .drive)) in
-      let len = drive-length b p (force .within) inter fill lf u (image (b .drive)) (force .fits) (entry .config) ten ours in
+      let len = drive-length b p (force .within) (image (b .drive)) (force .fits) (entry .config) fill ten (omega (arith, lf)) ours in
       rw (split-same, fill-same b p c image m agree)
       (verdict-follows image b area c m four agree _ _ _ (λ e.
       well-follows image b area four 0 [] (withDrive (b .drive) (settled entry) c) after (withDisk (b .drive) (reformatted p s (b .extra) fill u) m) len
       (agree-drive c image m agree (b .drive) four (settled entry) after (reformatted p s (b .extra) fill u) (settled-sense entry)
       (drive-settled entry (image (b .drive)) u (agree .drives (b .drive)) p force s (b .extra) fill after len
-      (drive-label b p (force .within) inter fill lf u (image (b .drive)) (force .fits) (entry .config) ten ours)
+      (drive-label b p (force .within) (image (b .drive)) (force .fits) (entry .config) fill ten (omega (arith, lf)) ours)
       (drive-remade b p (force .within) inter fill lf u (image (b .drive)) (force .fits) (entry .config) ten ours
       (λ h. (below h, passed-on _ _ _ _ _ e .0)))))))

@@ -8,6 +8,7 @@ pub mod Passages
 pub mod Change
 pub mod Making
 pub mod Sweeping
+pub mod Outside
 pub mod Remaking
 pub mod Agrees
 pub mod Ends

@@ -1,16 +1,14 @@
 -- Formats and assignments: the image made anew mirrors the machine made anew, and keeps the rest.
-use Prim.Native.Nat.{ℕ, _+_, _<_, _≤_}
-use mathlib.Core.Path.{_≡_, refl, sym, ap, _∙_}
+use Prim.Native.Nat.{ℕ, _<_, _≤_}
+use mathlib.Core.Path.{_≡_, _∙_}
 use mathlib.Core.Bool.{false}
-use mathlib.Core.List.{List, [], _∷_, _++_}
-use native.Mathlib.Omega.{arith}
-use lib.ListN.{length, length-append, length-replicate}
-use lib.Seq.{take-all}
-use Rattle.base.specs.Part.{part}
-use Rattle.base.proofs.Parts.{part-left, part-right, part-part}
+use mathlib.Core.List.{List, _++_}
+use lib.ListN.{length, length-replicate}
 use Rattle.geometry.specs.declared.params.Track.{Track}
 use Rattle.geometry.specs.declared.params.Params.{Params}
 use Rattle.geometry.specs.Params.{Within, imageLength, trackCount, trackOf}
+use Rattle.geometry.specs.Config.{labelRest}
+use Rattle.geometry.proofs.Labels.{sixteen}
 use Rattle.track.specs.declared.id.State.the-variants.{Sound, Bad, Moved, Taken}
 use Rattle.model.specs.declared.block.Block.{Block}
 use Rattle.model.specs.Commands.{madeAt, plainFill, driveFormatted, assigned}
@@ -18,7 +16,7 @@ use Rattle.model.specs.Machine.{Disk, sound, bad, moved, taken, becomes,
 use Rattle.model.proofs.Mirrors.{stateFor, Mirrors, KeepsLabel}
 use Rattle.model.proofs.Change.{sound-anew, bad-anew, moved-anew, taken-anew, mirrors-but}
 use Rattle.model.proofs.Making.{keeps-then, anew-then, label-then, filled-here, filled-keeps, filled-anew, made-label, made-anew, made-keeps, past-made}
-use Rattle.model.proofs.Sweeping.{length-swept-label, label-swept, mirrors-swept}
+use Rattle.model.proofs.Sweeping.{mirrors-swept}
 
 -- What is to be shown of a disk and an image after a command.
 pub record Remade (p : Params) (u : Disk) (before after : List ℕ) : Type 0 where
@@ -28,28 +26,6 @@ pub record Remade (p : Params) (u : Disk) (before after : List ℕ) : Type 0 whe
 length-plain : (p : Params) → length (plainFill p) ≡ p .size
 unfolding plainFill
 length-plain p = length-replicate (p .size) 0x6C
-
--- ---- A label: ten configuration bytes and six zeros
-abbrev zeros : List ℕ
-zeros = 0 ∷ 0 ∷ 0 ∷ 0 ∷ 0 ∷ 0 ∷ []
-
-sixteen : (config : List ℕ) → length config ≡ 10 → length (config ++ zeros) ≡ 16
-sixteen config ten = length-append config zeros ∙ ap (λ (n : ℕ). n + 6) ten
-
-ten-of : (config : List ℕ) → length config ≡ 10 → part 0 10 config ≡ config
-unfolding part
-ten-of config ten = take-all 10 config (omega arith)
-
-six-of : part 0 6 zeros ≡ zeros
-unfolding part
-six-of = refl
-
-pub label-parts : (config : List ℕ) → length config ≡ 10 → (image : List ℕ) → part 0 16 image ≡ config ++ zeros
-    → (part 0 10 image ≡ config) × (part 10 6 image ≡ zeros)
-label-parts config ten image is = (
-  sym (part-part 0 16 0 10 image (omega arith)) ∙ ap (part 0 10) is ∙ part-left 0 10 config zeros (omega arith) ∙ ten-of config ten,
-  sym (part-part 0 16 10 6 image (omega arith)) ∙ ap (part 10 6) is ∙ part-right 0 6 10 config zeros ten ∙ six-of,
-)
 
 module _ (b : Block) (p : Params) (w : Within p) (hf : (0 < b .extra) × (b .extra < p .sectors)) (fill : List ℕ) (lf : length fill ≡ p .size)
     (u : Disk) (image : List ℕ) (fits : imageLength p ≤ length image) where
@@ -121,16 +97,4 @@ module _ (b : Block) (p : Params) (w : Within p) (hf : (0 < b .extra) × (b .ext
       (reformatted p (trackOf p (b .address) .0) (b .extra) fill u .held) (driveFormatted b p config fill image)
   unfolding driveFormatted
   drive-remade config ten h below =
-      mirrors-swept p w (b .extra) fill lf image fits (trackOf p (b .address) .0) h (config ++ zeros) (sixteen config ten) u hf below
-
-  pub drive-length : (config : List ℕ) → length config ≡ 10 → trackOf p (b .address) .0 < trackCount p → length (driveFormatted b p config fill image) ≡ length image
-  unfolding driveFormatted
-  drive-length config ten h =
-      length-swept-label p w (b .extra) fill lf image fits (trackOf p (b .address) .0) h (config ++ zeros) (sixteen config ten)
-
-  pub drive-label : (config : List ℕ) → length config ≡ 10 → trackOf p (b .address) .0 < trackCount p
-      → (part 0 10 (driveFormatted b p config fill image) ≡ config) × (part 10 6 (driveFormatted b p config fill image) ≡ 0 ∷ 0 ∷ 0 ∷ 0 ∷ 0 ∷ 0 ∷ [])
-  unfolding driveFormatted
-  drive-label config ten h =
-      label-parts config ten _
-      (label-swept p w (b .extra) fill lf image fits (trackOf p (b .address) .0) h (config ++ zeros) (sixteen config ten))
+      mirrors-swept p w (b .extra) fill lf image fits (trackOf p (b .address) .0) h (config ++ labelRest) (sixteen config ten) u hf below

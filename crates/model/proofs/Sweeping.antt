@@ -10,9 +10,9 @@ use lib.ListN.{length}
 use lib.Dec.{leb, ltb}
 use borrow.Author.Tests.{le-ltb, leb-true, leb-false, lt-ltb, le-leb, lt-leb}
 use Rattle.base.proofs.Bools.{or-off}
-use Rattle.base.specs.Part.{part, splice}
+use Rattle.base.specs.Part.{splice}
 use Rattle.base.proofs.Decide.{pick-true, pick-false}
-use Rattle.base.proofs.Parts.{length-splice, part-same, part-after}
+use Rattle.base.proofs.Parts.{part-after}
 use Rattle.geometry.specs.declared.params.Lba.{Lba}
 use Rattle.geometry.specs.declared.params.Track.{Track}
 use Rattle.geometry.specs.declared.params.Params.{Params}
@@ -82,14 +82,6 @@ module _ (p : Params) (w : Within p) (f : ℕ) (fill : List ℕ) (lf : length fi
   track-behind : (t : Track) → trackBytes p t (splice 0 label swept) ≡ trackBytes p t swept
   unfolding trackBytes
   track-behind t = part-after (trackStart p t) (trackSize p) 0 label swept (omega arith) enough
-
-  pub length-swept-label : length (splice 0 label (soundFrom p (layoutOf (p .sectors) f) fill (trackCount p - s) s image)) ≡ length image
-  unfolding swept
-  length-swept-label = length-splice 0 label swept enough ∙ length-swept
-
-  pub label-swept : part 0 16 (splice 0 label (soundFrom p (layoutOf (p .sectors) f) fill (trackCount p - s) s image)) ≡ label
-  unfolding swept
-  label-swept = part-same 0 16 label swept sixteen (omega (arith, length-swept))
 
   -- ---- The machine
   module _ (u : Disk) where

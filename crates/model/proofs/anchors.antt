@@ -9,10 +9,9 @@ pub mod Configurations
 pub mod Initializing
 pub mod Damage
 pub mod Refusals
-pub mod Untouched
 pub mod Written
 pub mod Beyond
-pub mod Labelled
-pub mod Settled
+pub mod PendingDrives
+pub mod PendingCalls
 pub mod Corollaries
 pub mod Examples

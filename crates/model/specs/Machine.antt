@@ -1,7 +1,8 @@
 -- Document 01, 'The plain machine': no image, no slot, no byte of a label.
 --
 -- With the engine it shares what the paper shares: validity and geometry of a configuration, presence of a drive, a block's
--- fields, the table and the order of checks with the lengths of data, the layout of sense bytes. All else is written out here.
+-- fields, the table and the order of checks with the lengths of data, the layout of sense bytes, sameness of bytes. All else is
+-- written out here.
 use Prim.Native.Nat.{ℕ, zero, suc, _+_, _*_}
 use mathlib.Core.Bool.{Bool, true, false, not, _&&_, _||_}
 use mathlib.Core.Option.{Option, none, some}

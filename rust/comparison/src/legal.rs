@@ -1,6 +1,7 @@
-//! Whether one call's outcome is one that document 01 allows, on any images and any controller
-//! record. The outcome that the document fixes is built and compared byte for byte; only the slot
-//! of each sector of a Read or Write is taken, among the matching ones, as the engine took it.
+//! Whether one call's outcome is one that document 01, with its requests, allows, on any images and
+//! any controller record. The outcome that the document fixes is built and compared byte for byte;
+//! only the slot of each sector of a Read or Write is taken, among the matching ones, as the engine
+//! took it.
 
 use std::ops::Range;
 

@@ -1,5 +1,6 @@
 //! Document 01's disk controller engine in plain Rust, and the means to compare any engine with the
-//! document: written from the document and its settled readings alone.
+//! document: written from the document and its settled readings alone. The requests that followed
+//! it (document 02) are added one by one, with the proved engine's.
 //!
 //! - [`plain`]: the engine on images.
 //! - [`machine`], [`legal`]: the judges, on the terms of [`paper`], which `plain` does not use, so

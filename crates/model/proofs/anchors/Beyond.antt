@@ -38,8 +38,8 @@ use Rattle.model.specs.Engine.{viewOf, obey}
 use Rattle.model.proofs.Checked.{opcodeFor, row-of, Cleared, cleared, track-cleared, count-cleared}
 use Rattle.model.proofs.Judged.{passed-on}
 use Rattle.model.proofs.Addresses.{track-in}
-use Rattle.model.proofs.anchors.Untouched.{Outside, outside-self, outside-less, plain-most, fill-most}
-use Rattle.model.proofs.anchors.Untouched.{made-outside, assigned-outside, drive-outside, drive-labelled}
+use Rattle.model.proofs.Outside.{Outside, outside-self, outside-less, plain-most, fill-most}
+use Rattle.model.proofs.Outside.{made-outside, assigned-outside, drive-outside, drive-label}
 use Rattle.model.proofs.anchors.Written.{writes}
 use Rattle.model.proofs.Current.{setting-known}
 
@@ -123,7 +123,7 @@ module _ (b : Block) (given : List ℕ) (area : ℕ) (c : Controller) (image : L
       format-outside low none = drive-outside low (omega arith) b p w image fits _ _ ten (fill-most b p c) format-in none
 
       pub format-label : (length made ≡ length image) × (part 0 16 made ≡ entry .config ++ labelRest)
-      format-label = (format-outside 0 refl .len, drive-labelled 0 (omega arith) b p w image fits _ _ ten (fill-most b p c) format-in)
+      format-label = (format-outside 0 refl .len, drive-label b p w image fits _ _ ten (fill-most b p c) format-in)
 
   -- by cases; `low` is at most 16, and 0 for Format Drive
   module _ (choices : List ℕ) (low : ℕ) (front : low ≤ 16) (free : entryOf (b .opcode) .command ≡ FormatDrive → low ≡ 0) where

@@ -1,4 +1,5 @@
--- Which configurations and labels are valid, byte by byte, from document 01, 'Parameters'. Engine and machine share this.
+-- Which configurations and labels are valid, byte by byte, from document 01, 'Parameters' (engine and machine share what is
+-- said of configurations); and what a label holds.
 use Prim.Native.Nat.{ℕ}
 use mathlib.Core.Path.{_≡_, refl}
 use mathlib.Core.Bool.{Bool, true, false}

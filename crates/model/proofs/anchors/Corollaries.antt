@@ -1,7 +1,8 @@
--- What follows for any controller, block, data and images from the engine's definition, and for zero images from the claim.
+-- What follows from the engine's definition for any controller, block, data and images, and for any list of calls; and from the
+-- claim for zero images.
 use Prim.Native.Nat.{ℕ, zero, suc, _+_, _*_, _≤_, _<_}
 use mathlib.Core.Path.{_≡_, refl, sym, ap, ap₂, _∙_}
-use mathlib.Core.Bool.{Bool, true, false, not}
+use mathlib.Core.Bool.{Bool, true, false, not, true≢false}
 use mathlib.Core.List.{List, [], _∷_, map}
 use native.Mathlib.Omega.{arith}
 use lib.ListN.{length, take, drop, getD, replicate, length-replicate}
@@ -33,10 +34,10 @@ use Rattle.model.specs.Machine.{Machine, freshMachine}
 use Rattle.model.specs.Claim.{replies, atEnd, State, Order, Reset, Command as Ordered, fed, by-reset, by-execute, Runs, end, next}
 use Rattle.model.specs.Claim.{begin, beginMachine, Holds, Claim}
 use Rattle.model.proofs.Claimed.{claimed}
-use Rattle.model.proofs.anchors.Refusals.{unmoved, Answered, accepted, unchanged, all-answered, images-kept}
+use Rattle.model.proofs.anchors.Refusals.{unmoved, Answered, accepted, unchanged, all-answered, apart, images-kept}
 use Rattle.model.proofs.anchors.Beyond.{unless-left, initialized-image, outside-kept}
 use Rattle.model.proofs.anchors.Written.{Written, writes}
-use Rattle.model.proofs.anchors.Settled.{from-fresh}
+use Rattle.model.proofs.anchors.PendingCalls.{from-fresh}
 use Rattle.model.proofs.anchors.Session.{brief, lengths, calls, answers, worked}
 
 -- ---- (a) Number 1, 2 or 3: status, message and counts 0, and controller, area and images as they were. There is no other number.
@@ -87,10 +88,10 @@ module _ (p : Params) (w : Within p) (n a : ℕ) (choices given image : List ℕ
   data-stay = all-written .others
 
 -- ---- (d) Initialize leaves the images
-left-images : (drive : ℕ) (e : Effect) (area image0 image1 : List ℕ) → e .image ≡ imageOf drive image0 image1
+left-kept : (drive : ℕ) (e : Effect) (area image0 image1 : List ℕ) → e .image ≡ imageOf drive image0 image1
     → (left drive e area image0 image1 .image0 ≡ image0) × (left drive e area image0 image1 .image1 ≡ image1)
 unfolding left
-left-images drive e area image0 image1 same = rw same (images-kept drive image0 image1)
+left-kept drive e area image0 image1 same = rw same (images-kept drive image0 image1)
 
 picked-images : (six : Bool) (x y : Result) (image0 image1 : List ℕ) → (x .image0 ≡ image0) × (x .image1 ≡ image1)
     → (y .image0 ≡ image0) × (y .image1 ≡ image1) → (pick six x y .image0 ≡ image0) × (pick six x y .image1 ≡ image1)
@@ -113,7 +114,7 @@ module _ (choices : List ℕ) (c : Controller) (given : List ℕ) where
   initialize-leaves block area image0 image1 is =
       let drive = blockOf block .drive in
       picked-images (eqb (length block) 6) _ _ image0 image1
-      (left-images drive _ area image0 image1 (initialize-obeyed (blockOf block) (length area) (imageOf drive image0 image1) is)) (refl, refl)
+      (left-kept drive _ area image0 image1 (initialize-obeyed (blockOf block) (length area) (imageOf drive image0 image1) is)) (refl, refl)
 
 -- ---- (e) Every list of orders has a run, from every state
 run : (orders : List Order) (s : State) → (answers : List Reply) × (t : State) × Runs s orders answers t
@@ -189,13 +190,41 @@ engine-worked orders said s is runs =
     ap (map brief) (zero-claim 25360 25360 orders said s runs .0
     ∙ ap (replies (beginMachine (zeros 25360) (zeros 25360))) is ∙ ap (λ (m : Machine). replies m calls) (machine-same 25360)) ∙ worked
 
--- ---- (g) No command but Format Drive changes a byte of the label
-label-left : (choices : List ℕ) (b : Block) (given : List ℕ) (area : ℕ) (c : Controller) (image : List ℕ)
+-- ---- (g) No command but Format Drive changes a byte of a label
+label-obeyed : (choices : List ℕ) (b : Block) (given : List ℕ) (area : ℕ) (c : Controller) (image : List ℕ)
     → (entryOf (b .opcode) .command ≡ FormatDrive → ⊥) → part 0 16 (obey choices b given area c image .image) ≡ part 0 16 image
-label-left choices b given area c image other =
+label-obeyed choices b given area c image other =
     outside-kept choices b given area c image 16 (omega arith) (λ is. absurd (other is)) .below 0 16 (omega arith)
 
--- ---- (h) In any list from a fresh controller, on any images, parameters are pending exactly where the label does not hold them
+module _ (choices : List ℕ) (c : Controller) (block given area image0 image1 : List ℕ) where
+  abbrev KeepsLabels : Result → Type 0
+  KeepsLabels r = (part 0 16 (r .image0) ≡ part 0 16 image0) × (part 0 16 (r .image1) ≡ part 0 16 image1)
+
+  left-labels : (drive : ℕ) (e : Effect) → part 0 16 (e .image) ≡ part 0 16 (imageOf drive image0 image1) → KeepsLabels (left drive e area image0 image1)
+  unfolding left imageOf pick
+  left-labels drive e = by (eqb drive 0) (eqb drive 1) (apart drive)
+    where
+      by : (first second : Bool) → (first ≡ true → second ≡ false) → part 0 16 (e .image) ≡ part 0 16 (pick first image0 (pick second image1 []))
+          → (part 0 16 (pick first (e .image) image0) ≡ part 0 16 image0) × (part 0 16 (pick second (e .image) image1) ≡ part 0 16 image1)
+      by true true ne h = absurd (true≢false (ne refl))
+      by true false ne h = (h, refl)
+      by false true ne h = (refl, h)
+      by false false ne h = (refl, refl)
+
+  six-labels : (six : Bool) (x y : Result) → KeepsLabels x → KeepsLabels y → KeepsLabels (pick six x y)
+  unfolding pick
+  six-labels true x y hx hy = hx
+  six-labels false x y hx hy = hy
+
+  labels-left : (entryOf (blockOf block .opcode) .command ≡ FormatDrive → ⊥) → KeepsLabels (execute choices c block given area image0 image1)
+  unfolding execute
+  labels-left other =
+      let b = blockOf block in
+      six-labels (eqb (length block) 6) _ _
+      (left-labels (b .drive) _ (label-obeyed choices b given (length area) c (imageOf (b .drive) image0 image1) other)) (refl, refl)
+
+-- ---- (h) In any list from a fresh controller, on any images, each call lent the controller and images that the call before left:
+-- parameters are pending exactly where the label does not hold them
 module _ (image0 image1 : List ℕ) (orders : List Order) (answers : List Reply) (s : State) (runs : Runs (begin image0 image1) orders answers s)
     (drive : ℕ) (known : driveAt (s .controller) drive .known ≡ true) where
   pending-labels : driveAt (s .controller) drive .pending

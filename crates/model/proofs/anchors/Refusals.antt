@@ -56,7 +56,7 @@ judge-by b v given area = judged-by _ (picked _ second (picked _ third pass))
 pub data Makes (drive : ℕ) (c : Controller) (image : List ℕ) (command : Command) : Controller → Type 0 where
   nothing : Makes drive c image command c
   buffer : (bytes : List ℕ) → Makes drive c image command (withBuffer bytes c)
-  initial : (config : List ℕ)
+  initial : command ≡ Initialize → (config : List ℕ)
       → Makes drive c image command (withDrive drive (initialized config (not (labelHolds image config)) (driveAt c drive)) c)
   formatted : command ≡ FormatDrive → Makes drive c image command (withDrive drive (settled (driveAt c drive)) c)
   sense : (bytes : List ℕ) {d : Controller} → Makes drive c image command d → Makes drive c image command (withSense drive bytes d)
@@ -85,10 +85,10 @@ module _ {b : Block} {c : Controller} {image : List ℕ} {command : Command} whe
   unfolding transferred good goodOutcome failed failedOutcome
   moved x = chosen _ (ended refl (sense _ (buffer _))) (ended refl (sense _ (buffer _)))
 
-  configured : (s : Setting) (config : List ℕ) → Ends b c image command (initializedBy s b config c image)
+  configured : command ≡ Initialize → (s : Setting) (config : List ℕ) → Ends b c image command (initializedBy s b config c image)
   unfolding initializedBy good goodOutcome failed failedOutcome
-  configured Invalid config = ended refl (sense _ nothing)
-  configured (Valid p) config = ended refl (sense _ (initial config))
+  configured is Invalid config = ended refl (sense _ nothing)
+  configured is (Valid p) config = ended refl (sense _ (initial is config))
 
 module _ (choices : List ℕ) (b : Block) (s : Setting) (given : List ℕ) (c : Controller) (image : List ℕ) where
   carried-ends : (command : Command) → Ends b c image command (carryOut choices b s given c image command)
@@ -106,7 +106,7 @@ module _ (choices : List ℕ) (b : Block) (s : Setting) (given : List ℕ) (c : 
   carried-ends AssignAlternate = disk s _ (λ p. own (judged-by _ pass) (ended refl (sense _ nothing)))
   carried-ends WriteBuffer = ended refl (sense _ (buffer _))
   carried-ends ReadBuffer = ended refl (sense _ nothing)
-  carried-ends Initialize = configured _ _
+  carried-ends Initialize = configured refl _ _
   carried-ends Unknown = ended refl (sense _ nothing)
 
 -- ---- So a command is refused with 2 or 3 and leaves controller and image, or it ends with number 0
@@ -128,21 +128,25 @@ unfolding obey
 obeyed choices b given area c image = verdict-obeyed b c image _ _ (judge-by b _ _ _) (carried-ends choices b _ given c image _)
 
 -- ---- All that a call leaves
--- the images, where a command left the one that it was lent
-pub images-kept : (drive : ℕ) (image0 image1 : List ℕ) → (pick (eqb drive 0) (imageOf drive image0 image1) image0 ≡ image0)
-    × (pick (eqb drive 1) (imageOf drive image0 image1) image1 ≡ image1)
-unfolding imageOf pick
-images-kept drive image0 image1 = by (eqb drive 0) (eqb drive 1) (λ e. ne-eqb drive 1 (λ q. zero-one (sym (eqb-true drive 0 e) ∙ q)))
+-- no drive is both 0 and 1
+pub apart : (drive : ℕ) → eqb drive 0 ≡ true → eqb drive 1 ≡ false
+apart drive e = ne-eqb drive 1 (λ q. zero-one (sym (eqb-true drive 0 e) ∙ q))
   where
     zero-one : _≡_ {A = ℕ} 0 1 → ⊥
     zero-one e = omega arith
 
+-- the images, where a command left the one that it was lent
+pub images-kept : (drive : ℕ) (image0 image1 : List ℕ) → (pick (eqb drive 0) (imageOf drive image0 image1) image0 ≡ image0)
+    × (pick (eqb drive 1) (imageOf drive image0 image1) image1 ≡ image1)
+unfolding imageOf pick
+images-kept drive image0 image1 = by (eqb drive 0) (eqb drive 1) (apart drive)
+  where
     by : (first second : Bool) → (first ≡ true → second ≡ false) → (pick first (pick first image0 (pick second image1 [])) image0 ≡ image0)
         × (pick second (pick first image0 (pick second image1 [])) image1 ≡ image1)
-    by true true apart = absurd (true≢false (apart refl))
-    by true false apart = (refl, refl)
-    by false true apart = (refl, refl)
-    by false false apart = (refl, refl)
+    by true true ne = absurd (true≢false (ne refl))
+    by true false ne = (refl, refl)
+    by false true ne = (refl, refl)
+    by false false ne = (refl, refl)
 
 -- status, message and counts are 0, and controller, area and images as they were
 abbrev pub unmoved : Controller → (area image0 image1 : List ℕ) → (number : ℕ) → Result

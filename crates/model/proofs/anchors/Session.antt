@@ -113,17 +113,6 @@ after =
     ∷ record { call = reset; answer = says 0 0 0 0 [] }
     ∷ sent (six 0x08 0 0 31 1 0) [] (says 0 0 1 256 (four 7 7 7 7))
     ∷ sent (six 0x08 0 0 64 1 0) [] (says 0 0 1 256 (four 0x6C 0x6C 0x6C 0x6C))
-    -- the stored bytes: at once a Read works
-    ∷ sent (six 0x11 0 0 0 0 0) (config 3) (says 0 0 0 0 [])
-    ∷ sent (six 0x08 0 0 31 1 0) [] (says 0 0 1 256 (four 7 7 7 7))
-    -- others are pending; the stored ones end that, and a byte too many is not looked at
-    ∷ sent (six 0x11 0 0 0 0 0) (config 2) (says 0 0 0 0 [])
-    ∷ sent (six 0x08 0 0 31 1 0) [] (says 0 2 0 0 [])
-    ∷ senses 0 0x16 0 0 0
-    ∷ sent (six 0x11 0 0 0 0 0) (config 3 ++ (1 ∷ [])) (says 0 0 0 0 [])
-    ∷ sent (six 0x08 0 0 31 1 0) [] (says 0 0 1 256 (four 7 7 7 7))
-    -- nine of them are too few
-    ∷ sent (six 0x11 0 0 0 0 0) (take 9 (config 3)) (says 2 0 0 0 [])
     -- four tracks are too many for the image
     ∷ sent (six 0x11 0 0 0 0 0) (config 4) (says 0 2 0 0 [])
     ∷ senses 0 0x22 0 0 0
@@ -150,18 +139,34 @@ after =
     ∷ sent (six 0x08 0 0 31 1 0) [] (says 0 0 1 256 (four 7 7 7 7))
     ∷ []
 
+-- ---- Then the console initializes again, as at every start
+starts : List Line
+starts =
+    -- the stored bytes: a Read works at once
+    sent (six 0x11 0 0 0 0 0) (config 3) (says 0 0 0 0 [])
+    ∷ sent (six 0x08 0 0 31 1 0) [] (says 0 0 1 256 (four 7 7 7 7))
+    -- others are pending; the stored ones end that, and a byte too many is not looked at
+    ∷ sent (six 0x11 0 0 0 0 0) (config 2) (says 0 0 0 0 [])
+    ∷ sent (six 0x08 0 0 31 1 0) [] (says 0 2 0 0 [])
+    ∷ senses 0 0x16 0 0 0
+    ∷ sent (six 0x11 0 0 0 0 0) (config 3 ++ (1 ∷ [])) (says 0 0 0 0 [])
+    ∷ sent (six 0x08 0 0 31 1 0) [] (says 0 0 1 256 (four 7 7 7 7))
+    -- nine of them are too few
+    ∷ sent (six 0x11 0 0 0 0 0) (take 9 (config 3)) (says 2 0 0 0 [])
+    ∷ []
+
 -- two images of one length; drives 2 and 3 have none
 unfoldable pub lengths : (image drive : ℕ) → ℕ
 lengths image drive = pick (ltb drive 2) image 0
 
 pub calls : List Call
-calls = map (λ (l : Line). l .call) (frames ++ (three ++ after))
+calls = map (λ (l : Line). l .call) (frames ++ (three ++ (after ++ starts)))
 
 pub answers : List (List ℕ)
-answers = map (λ (l : Line). l .answer) (frames ++ (three ++ after))
+answers = map (λ (l : Line). l .answer) (frames ++ (three ++ (after ++ starts)))
 
 pub worked : map brief (replies (freshMachine (lengths 25360)) calls) ≡ answers
-unfolding brief says four six config sent senses frames three after lengths calls answers pick sameBytes sizeFor fittedTo settingBy settingOf
+unfolding brief says four six config sent senses frames three after starts lengths calls answers pick sameBytes sizeFor fittedTo settingBy settingOf
     blockOf countOf fromBuffer entryOf judged presentWith controlWrong isValid reach testsWith tests sizeIn bytesOf lengthsWith judge
     addressed senseOf freshDisk freshMachine changed withSense withBuffer withDisk inForce becomes filled storing failing well providing
     isBad isMoved isTaken denied paired parted partedBy someParted addressGiven unassignable finished withFirst passing readFrom writeFrom

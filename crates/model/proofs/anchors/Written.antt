@@ -22,7 +22,7 @@ use Rattle.track.proofs.Choices.{only-used}
 use Rattle.track.proofs.SameIds.{SameIds, found-same, data-keeps}
 use Rattle.model.specs.Transfer.{Transfer, ended, writeSlot, onward, found, writing}
 use Rattle.model.proofs.Addresses.{track-in}
-use Rattle.model.proofs.anchors.Untouched.{Outside, outside-self, outside-then, track-outside}
+use Rattle.model.proofs.Outside.{Outside, outside-self, outside-then, track-outside}
 
 -- ---- A slot that is found is one of the drive
 used-in : (choice : ℕ) (p : Params) (s : ℕ) (image : List ℕ) (v u : Track) (k : ℕ) (o : Option ℕ) → slotUsed choice p s (trackBytes p v image) ≡ o

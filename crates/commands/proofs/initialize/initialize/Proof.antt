@@ -36,15 +36,15 @@ enum-told-2 c = search needs
 drive-at-requires : tie.Need-drive-at-requires
 drive-at-requires c κs = search needs
 
--- src/initialize.rt:48:27
+-- src/initialize.rt:43:17
 label-holds-requires : tie.Need-label-holds-requires
 label-holds-requires c κs = search needs
 
--- src/initialize.rt:49:18
+-- src/initialize.rt:50:18
 with-drive-requires : tie.Need-with-drive-requires
 with-drive-requires c κs = search needs
 
--- src/initialize.rt:49:13
+-- src/initialize.rt:50:13
 good-requires : tie.Need-good-requires
 good-requires c κs = search needs
 

@@ -6,7 +6,7 @@ use mathlib.Core.Bool.{Bool, true, false}
 use mathlib.Core.List.{List, _++_}
 use native.Mathlib.Omega.{arith}
 use native.Mathlib.Nat.{mul-le-mul-left, min-le-left}
-use lib.ListN.{length, take, length-append, length-take, length-replicate}
+use lib.ListN.{length, take, length-take, length-replicate}
 use Rattle.base.specs.Pick.{pick}
 use Rattle.base.specs.Part.{part, splice}
 use Rattle.base.proofs.Parts.{length-splice, part-same, part-before, part-after, cell-in}
@@ -16,6 +16,7 @@ use Rattle.geometry.specs.declared.config.Setting.{Setting}
 use Rattle.geometry.specs.declared.config.Setting.the-variants.{Valid, Invalid}
 use Rattle.geometry.specs.Params.{Within, trackCount, trackSize, imageLength, trackStart, trackOf}
 use Rattle.geometry.specs.Config.{labelRest}
+use Rattle.geometry.proofs.Labels.{sixteen}
 use Rattle.interleave.specs.Layout.{layoutOf}
 use Rattle.interleave.proofs.Layouts.{layout-length}
 use Rattle.track.specs.declared.id.State.{State}
@@ -64,7 +65,7 @@ module _ (low : ℕ) (p : Params) (image : List ℕ) (fits : imageLength p ≤ l
   }
 
   label-outside : low ≡ 0 → (config : List ℕ) → length config ≡ 10 → Outside low (Valid p) image (splice 0 (config ++ labelRest) image)
-  label-outside none config l = put-outside 0 (config ++ labelRest) (omega arith) (omega (arith, l, length-append config labelRest))
+  label-outside none config l = put-outside 0 (config ++ labelRest) (omega arith) (omega (arith, sixteen config l))
 
   pub track-outside : low ≤ 16 → (t : Track) (bytes : List ℕ) → t .0 < trackCount p → length bytes ≤ trackSize p
       → Outside low (Valid p) image (withTrack p t bytes image)
@@ -141,6 +142,14 @@ module _ (low : ℕ) (front : low ≤ 16) (b : Block) (p : Params) (w : Within p
       unfolding driveFormatted
       drive-outside none = outside-then low (Valid p) image _ _ swept (label-outside low p _ (rw (swept .len) fits) none config ten)
 
-      pub drive-labelled : part 0 16 (driveFormatted b p config fill image) ≡ config ++ labelRest
-      unfolding driveFormatted
-      drive-labelled = part-same 0 16 (config ++ labelRest) _ (omega (arith, ten, length-append config labelRest)) (omega (arith, swept .len))
+-- what Format Drive writes to the label, and the length
+module _ (b : Block) (p : Params) (w : Within p) (image : List ℕ) (fits : imageLength p ≤ length image) (config fill : List ℕ)
+    (ten : length config ≡ 10) (l : length fill ≤ p .size) (h : trackOf p (b .address) .0 < trackCount p) where
+  pub drive-length : length (driveFormatted b p config fill image) ≡ length image
+  drive-length = drive-outside 0 (omega arith) b p w image fits config fill ten l h refl .len
+
+  pub drive-label : part 0 16 (driveFormatted b p config fill image) ≡ config ++ labelRest
+  unfolding driveFormatted
+  drive-label =
+      let before = swept 0 (omega arith) b p w image fits config fill ten l h in
+      part-same 0 16 (config ++ labelRest) _ (sixteen config ten) (omega (arith, before .len))

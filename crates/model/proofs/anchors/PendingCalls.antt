@@ -36,8 +36,8 @@ use Rattle.model.proofs.Current.{setting-known}
 use Rattle.model.proofs.Called.{left-images, drive-below}
 use Rattle.model.proofs.anchors.Refusals.{Makes, nothing, buffer, initial, formatted, sense, ended, Obeyed, answered, denied, obeyed}
 use Rattle.model.proofs.anchors.Beyond.{format-label, outside-kept}
-use Rattle.model.proofs.anchors.Labelled.{Labelled, initialized-settled, format-holds, holds-kept, fresh-labelled}
-use Rattle.model.proofs.anchors.Labelled.{images-labelled, buffer-labelled, image-labelled, entry-labelled, both-labelled, sense-labelled}
+use Rattle.model.proofs.anchors.PendingDrives.{AllPendingByLabel, initialized-pending, format-holds, holds-kept, fresh-by-label}
+use Rattle.model.proofs.anchors.PendingDrives.{images-by-label, buffer-by-label, image-by-label, entry-by-label, both-by-label, sense-by-label}
 
 -- ---- Commands
 format? : (opcode : ℕ) → Dec (entryOf opcode .command ≡ FormatDrive)
@@ -49,7 +49,7 @@ format? opcode = by (ℕ-discrete (opcodeFor (entryOf opcode .command)) 4)
     by (no ne) = no (λ is. ne (ap opcodeFor is))
 
 module _ (choices : List ℕ) (b : Block) (given : List ℕ) (area : ℕ) (h : b .drive < 4) (c : Controller) (images : ℕ → List ℕ)
-    (labelled : Labelled c images) where
+    (told : AllPendingByLabel c images) where
   abbrev entry : Drive
   entry = driveAt c (b .drive)
 
@@ -58,29 +58,29 @@ module _ (choices : List ℕ) (b : Block) (given : List ℕ) (area : ℕ) (h : b
 
   -- one but Format Drive: the controller, by the label as it was
   module _ (command : Command) (other : command ≡ FormatDrive → ⊥) where
-    makes-labelled : {d : Controller} → Makes (b .drive) c image command d → Labelled d images
-    makes-labelled nothing = labelled
-    makes-labelled (buffer bytes) = buffer-labelled c images labelled bytes
-    makes-labelled (initial config) = entry-labelled c images labelled (b .drive) h _ (initialized-settled config entry image)
-    makes-labelled (formatted is) = absurd (other is)
-    makes-labelled (sense bytes m) = sense-labelled _ images (makes-labelled m) (b .drive) h bytes
+    makes-by-label : {d : Controller} → Makes (b .drive) c image command d → AllPendingByLabel d images
+    makes-by-label nothing = told
+    makes-by-label (buffer bytes) = buffer-by-label c images told bytes
+    makes-by-label (initial is config) = entry-by-label c images told (b .drive) h _ (initialized-pending config entry image)
+    makes-by-label (formatted is) = absurd (other is)
+    makes-by-label (sense bytes m) = sense-by-label _ images (makes-by-label m) (b .drive) h bytes
 
-    obeyed-labelled : (e : Effect) → Obeyed b c image command e → Labelled (e .outcome .controller) images
+    obeyed-by-label : (e : Effect) → Obeyed b c image command e → AllPendingByLabel (e .outcome .controller) images
     unfolding refused bareOutcome
-    obeyed-labelled e (answered (ended number makes)) = makes-labelled makes
-    obeyed-labelled e (denied number least most is) = rw is labelled
+    obeyed-by-label e (answered (ended number makes)) = makes-by-label makes
+    obeyed-by-label e (denied number least most is) = rw is told
 
   -- controller and image
   abbrev Leaves : Effect → Type 0
-  Leaves e = Labelled (e .outcome .controller) (changed images (b .drive) (e .image))
+  Leaves e = AllPendingByLabel (e .outcome .controller) (changed images (b .drive) (e .image))
 
   failed-leaves : (code : ℕ) (at : Lba) → Leaves (failed b code at 0 [] c image)
   unfolding failed failedOutcome
-  failed-leaves code at = images-labelled _ images (sense-labelled c images labelled (b .drive) h _) _ (changed-back images (b .drive))
+  failed-leaves code at = images-by-label _ images (sense-by-label c images told (b .drive) h _) _ (changed-back images (b .drive))
 
   unless-leaves : (v : Verdict) (e : Effect) → (v ≡ Passed → Leaves e) → Leaves (unless v b c image e)
   unfolding unless refused bareOutcome
-  unless-leaves (Refused number) e new = images-labelled c images labelled _ (changed-back images (b .drive))
+  unless-leaves (Refused number) e new = images-by-label c images told _ (changed-back images (b .drive))
   unless-leaves (Faulty code at) e new = failed-leaves code at
   unless-leaves Passed e new = new refl
 
@@ -88,8 +88,8 @@ module _ (choices : List ℕ) (b : Block) (given : List ℕ) (area : ℕ) (h : b
   format-leaves : (after : List ℕ) → labelHolds after (entry .config) ≡ true → Leaves (good b 0 [] (withDrive (b .drive) (settled entry) c) after)
   unfolding good goodOutcome settled
   format-leaves after holds =
-      let renewed = both-labelled c images labelled (b .drive) h (settled entry) after (λ known. sym (ap not holds)) in
-      sense-labelled _ _ renewed (b .drive) h _
+      let renewed = both-by-label c images told (b .drive) h (settled entry) after (λ known. sym (ap not holds)) in
+      sense-by-label _ _ renewed (b .drive) h _
 
   carried-leaves : entryOf (b .opcode) .command ≡ FormatDrive → judge b (viewOf entry (length image)) (length given) area ≡ Passed
       → (s : Setting) → settingIn entry (length image) ≡ s → Leaves (carryOut choices b s given c image FormatDrive)
@@ -104,46 +104,46 @@ module _ (choices : List ℕ) (b : Block) (given : List ℕ) (area : ℕ) (h : b
   unfolding obey
   obey-leaves (yes is) = unless-leaves _ _ (λ passed. rw is (carried-leaves is passed _ refl))
   obey-leaves (no other) =
-      let made = obeyed-labelled _ other _ (obeyed choices b given area c image) in
+      let made = obeyed-by-label _ other _ (obeyed choices b given area c image) in
       let kept = outside-kept choices b given area c image 16 (omega arith) (λ is. absurd (other is)) in
-      image-labelled _ images made (b .drive) _ (λ known.
+      image-by-label _ images made (b .drive) _ (λ known.
       made .drives (b .drive) known ∙ ap not (sym (holds-kept image _ _ (record { len = kept .len; label = kept .below }))))
 
 -- ---- Calls
-abbrev AllLabelled : State → Type 0
-AllLabelled s = Labelled (s .controller) (λ d. imageOf d (s .image0) (s .image1))
+abbrev AllIn : State → Type 0
+AllIn s = AllPendingByLabel (s .controller) (λ d. imageOf d (s .image0) (s .image1))
 
 abbrev stateOf : Result → State
 stateOf r = record { controller = r .outcome .controller; image0 = r .image0; image1 = r .image1 }
 
-module _ (choices : List ℕ) (c : Controller) (block given area image0 image1 : List ℕ) (labelled : Labelled c (λ d. imageOf d image0 image1)) where
-  six-labelled : (six : Bool) (r : Result) → AllLabelled (stateOf r)
-      → AllLabelled (stateOf (pick six r (record { outcome = bareOutcome 1 c; area = area; image0 = image0; image1 = image1 })))
+module _ (choices : List ℕ) (c : Controller) (block given area image0 image1 : List ℕ) (told : AllPendingByLabel c (λ d. imageOf d image0 image1)) where
+  six-by-label : (six : Bool) (r : Result) → AllIn (stateOf r)
+      → AllIn (stateOf (pick six r (record { outcome = bareOutcome 1 c; area = area; image0 = image0; image1 = image1 })))
   unfolding pick bareOutcome
-  six-labelled true r new = new
-  six-labelled false r new = labelled
+  six-by-label true r new = new
+  six-by-label false r new = told
 
-  execute-labelled : AllLabelled (stateOf (execute choices c block given area image0 image1))
+  execute-by-label : AllIn (stateOf (execute choices c block given area image0 image1))
   unfolding execute left
-  execute-labelled =
+  execute-by-label =
       let b = blockOf block in
       let len = outside-kept choices b given (length area) c (imageOf (b .drive) image0 image1) 0 (omega arith) (λ is. refl) .len in
-      six-labelled (eqb (length block) 6) _
-      (images-labelled _ _
-      (obey-leaves choices b given (length area) (drive-below block) c (λ d. imageOf d image0 image1) labelled (format? (b .opcode)))
+      six-by-label (eqb (length block) 6) _
+      (images-by-label _ _
+      (obey-leaves choices b given (length area) (drive-below block) c (λ d. imageOf d image0 image1) told (format? (b .opcode)))
       _ (left-images (b .drive) _ image0 image1 len))
 
-call-labelled : {s t : State} {order : Order} {reply : Reply} → Calls s order reply t → AllLabelled s → AllLabelled t
+call-by-label : {s t : State} {order : Order} {reply : Reply} → Calls s order reply t → AllIn s → AllIn t
 unfolding Executed resetOf bareOutcome
-call-labelled (by-reset {s} outcome is) labelled = rw is (fresh-labelled (s .image0) (s .image1))
-call-labelled (by-execute {s} {block} {given} {area} result executed) labelled =
-    rw (executed .1) (execute-labelled (executed .0) (s .controller) block given area (s .image0) (s .image1) labelled)
+call-by-label (by-reset {s} outcome is) told = rw is (fresh-by-label (s .image0) (s .image1))
+call-by-label (by-execute {s} {block} {given} {area} result executed) told =
+    rw (executed .1) (execute-by-label (executed .0) (s .controller) block given area (s .image0) (s .image1) told)
 
-run-labelled : {s t : State} {orders : List Order} {answers : List Reply} → Runs s orders answers t → AllLabelled s → AllLabelled t
-run-labelled end labelled = labelled
-run-labelled (next call rest) labelled = run-labelled rest (call-labelled call labelled)
+run-by-label : {s t : State} {orders : List Order} {answers : List Reply} → Runs s orders answers t → AllIn s → AllIn t
+run-by-label end told = told
+run-by-label (next call rest) told = run-by-label rest (call-by-label call told)
 
 pub from-fresh : (image0 image1 : List ℕ) {orders : List Order} {answers : List Reply} {s : State} → Runs (begin image0 image1) orders answers s
-    → AllLabelled s
+    → AllIn s
 unfolding begin
-from-fresh image0 image1 runs = run-labelled runs (fresh-labelled image0 image1)
+from-fresh image0 image1 runs = run-by-label runs (fresh-by-label image0 image1)
