@@ -1,38 +1,26 @@
 // Initialize.
-use base::copy_bytes;
 use control::record::Ending;
 use control::record::drive_at;
 use control::record::failed;
 use control::record::good;
 use control::record::with_drive;
 use geometry::config::Setting;
+use geometry::config::config_in;
 use geometry::config::label_holds;
 use geometry::config::setting_of;
 use model::block::Block;
 use model::record::Drive;
-ghost use mathlib.Core.Path.{_≡_};
 ghost use Prim.Native.Nat.{_≤_, _<_};
 ghost use lib.ListN.{length};
-ghost use Rattle.base.specs.Part.{part};
 ghost use Rattle.model.specs.Commands.{initialize};
 ghost use Rattle.control.specs.Leaves.{Ends};
-
-// The ten configuration bytes given.
-fn config_of(given: &[u8]) -> [u8; 10]
-    requires { ⌜ 10 ≤ length (now given) ⌝ }
-    ensures { λ r. ⌜ r ≡ part 0 10 (now (given .entry)) ⌝ }
-{
-    let mut config = [0u8; 10];
-    copy_bytes(&mut config, &given[0..10]);
-    config
-}
 
 // The configuration comes into force if it is valid with the image; else 22h. It is pending unless the label holds it.
 pub fn initialize(drives: [Drive; 4], b: Block, given: &[u8], image: &[u8]) -> Ending
     requires { ⌜ (b .drive < 4) × (b .address .0 < 2097152) × (10 ≤ length (now given)) ⌝ }
     ensures { λ r. ⌜ Ends r drives (now (image .entry)) (λ c. initialize b (now (given .entry)) c (now (image .entry))) ⌝ }
 {
-    let config = config_of(given);
+    let config = config_in(given);
     let drive = b.drive;
     let setting = setting_of(config, image.len());
     match setting {

@@ -8,7 +8,7 @@ use geometry::params::Params;
 use model::block::Block;
 use model::record::Drive;
 ghost use mathlib.Core.Path.{_≡_};
-ghost use Prim.Native.Nat.{_+_, _*_, _≤_, _<_};
+ghost use Prim.Native.Nat.{_+_, _-_, _*_, _≤_, _<_, min};
 ghost use lib.ListN.{length};
 ghost use lib.Dec.{ltb};
 ghost use Rattle.base.specs.Pick.{pick};
@@ -39,10 +39,10 @@ pub fn done_of(sectors: usize, n: usize) -> Done
     }
 }
 
-// Sectors to move in one go: at least one of those left, and all on the track of the address.
+// Sectors to move in one go: those left, as far as they are on the track of the address.
 pub fn sectors_here(p: Params, a: Lba, left: usize) -> usize
     requires { ⌜ Within p × (1 ≤ left) ⌝ }
-    ensures { λ r. ⌜ (1 ≤ r) × (r ≤ left) × (sectorOf p a + r ≤ p .sectors) ⌝ }
+    ensures { λ r. ⌜ (r ≡ min left (p .sectors - sectorOf p a)) × (1 ≤ r) × (r ≤ left) × (sectorOf p a + r ≤ p .sectors) ⌝ }
 {
     let room = p.sectors - p.sector_of(a) as usize;
     if left < room {

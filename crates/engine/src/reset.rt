@@ -1,7 +1,7 @@
 // Reset, and a fresh controller.
 use control::record::bare_answer;
 use geometry::config::Setting;
-use geometry::config::label_config;
+use geometry::config::config_in;
 use geometry::config::label_setting;
 use model::record::Controller;
 use model::record::Drive;
@@ -30,7 +30,7 @@ fn load(image: &[u8]) -> Drive
         Setting::Invalid => blank_drive(),
         Setting::Valid(_) => Drive {
             sense: [0; 4],
-            config: label_config(image),
+            config: config_in(image),
             known: true,
             pending: false,
         },

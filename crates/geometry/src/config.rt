@@ -5,8 +5,9 @@ use base::same_bytes;
 ghost use mathlib.Core.Path.{_≡_};
 ghost use Prim.Native.Nat.{_+_, _*_, _≤_, _<_};
 ghost use lib.ListN.{length};
+ghost use Rattle.base.specs.Part.{part};
 ghost use Rattle.geometry.specs.Params.{Within};
-ghost use Rattle.geometry.specs.Config.{sizeFor, fittedTo, settingBy, settingOf, labelConfig, labelSetting, labelHolds};
+ghost use Rattle.geometry.specs.Config.{sizeFor, fittedTo, settingBy, settingOf, labelSetting, labelHolds};
 
 // What a configuration gives with an image of some length.
 pub enum Setting {
@@ -115,13 +116,13 @@ pub fn setting_of(config: [u8; 10], image: usize) -> Setting
     )
 }
 
-// The label's ten configuration bytes.
-pub fn label_config(image: &[u8]) -> [u8; 10]
-    requires { ⌜ 10 ≤ length (now image) ⌝ }
-    ensures { λ r. ⌜ r ≡ labelConfig (now (image .entry)) ⌝ }
+// The ten configuration bytes at the front of a label, or of data given.
+pub fn config_in(bytes: &[u8]) -> [u8; 10]
+    requires { ⌜ 10 ≤ length (now bytes) ⌝ }
+    ensures { λ r. ⌜ r ≡ part 0 10 (now (bytes .entry)) ⌝ }
 {
     let mut config = [0u8; 10];
-    copy_bytes(&mut config, &image[0..10]);
+    copy_bytes(&mut config, &bytes[0..10]);
     config
 }
 
@@ -135,7 +136,7 @@ pub fn label_setting(image: &[u8]) -> Setting
     if !same_bytes(&image[10..16], &[0u8; 6]) {
         return Setting::Invalid;
     }
-    setting_of(label_config(image), image.len())
+    setting_of(config_in(image), image.len())
 }
 
 // Whether these ten bytes are those of an image's valid label.

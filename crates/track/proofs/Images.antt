@@ -46,13 +46,6 @@ module _ (p : Params) where
       unfolding withTrack
       label-kept at size k = part-before at size (trackStart p t) bytes image (omega arith) (omega (arith, l, track-room t (length image) h fits))
 
-      -- bytes past the length that the parameters give
-      pub past-kept : (at size : ℕ) → imageLength p ≤ at → part at size (withTrack p t bytes image) ≡ part at size image
-      unfolding withTrack
-      past-kept at size k =
-          part-after at size (trackStart p t) bytes image
-          (omega (arith, l, track-room t (imageLength p) h (omega arith))) (omega (arith, l, track-room t (length image) h fits))
-
 -- ---- a sector's data in a track's stretch
 module _ (p : Params) (bytes : List ℕ) (l : length bytes ≡ trackSize p) where
   -- a slot and its parts

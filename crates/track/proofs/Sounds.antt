@@ -6,7 +6,6 @@ use native.Mathlib.Omega.{arith}
 use native.Mathlib.Decide.{decLt}
 use native.Mathlib.Nat.{add-zero}
 use lib.ListN.{length}
-use Rattle.base.specs.Part.{part}
 use Rattle.geometry.specs.declared.params.Params.{Params}
 use Rattle.geometry.specs.declared.params.Track.{Track}
 use Rattle.geometry.specs.Params.{trackCount, trackSize, imageLength}
@@ -14,7 +13,7 @@ use Rattle.track.specs.declared.id.State.the-variants.{Sound}
 use Rattle.track.specs.Id.{track}
 use Rattle.track.specs.Image.{trackBytes, withTrack}
 use Rattle.track.specs.Format.{formatted, soundFrom}
-use Rattle.track.proofs.Images.{length-with-track, track-same, track-other, label-kept, past-kept}
+use Rattle.track.proofs.Images.{length-with-track, track-same, track-other}
 use Rattle.track.proofs.Formats.{length-formatted}
 
 module _ (p : Params) (map fill : List ℕ) where
@@ -68,21 +67,6 @@ module _ (p : Params) (map fill : List ℕ) (lm : length map ≡ p .sectors) (lf
           let e : s + n ≡ t .0 = omega arith in
           ap (λ (u : ℕ). trackBytes p t (withTrack p (track u) (formatted p (track u) Sound map fill) (soundFrom p map fill n s image))) e
           ∙ track-same p (soundFrom p map fill n s image) (fits-sound n (omega arith)) t (formatted p t Sound map fill) (omega arith) (long (t .0))
-
-  -- the label, and bytes past the length that the parameters give
-  pub sound-label : (n at size : ℕ) → s + n ≤ trackCount p → at + size ≤ 16 → part at size (soundFrom p map fill n s image) ≡ part at size image
-  sound-label zero at size h k = rw sound-none
-  sound-label (suc n) at size h k =
-      rw (sound-more p map fill n s image)
-      (label-kept p (soundFrom p map fill n s image) (fits-sound n (omega arith)) (track (s + n)) (formatted p (track (s + n)) Sound map fill) (omega arith) (long (s + n)) at size k
-      ∙ sound-label n at size (omega arith) k)
-
-  pub sound-past : (n at size : ℕ) → s + n ≤ trackCount p → imageLength p ≤ at → part at size (soundFrom p map fill n s image) ≡ part at size image
-  sound-past zero at size h k = rw sound-none
-  sound-past (suc n) at size h k =
-      rw (sound-more p map fill n s image)
-      (past-kept p (soundFrom p map fill n s image) (fits-sound n (omega arith)) (track (s + n)) (formatted p (track (s + n)) Sound map fill) (omega arith) (long (s + n)) at size k
-      ∙ sound-past n at size (omega arith) k)
 
 -- ---- the loop: what is left to do at track t gives what the whole was to give
 pub record Remade (p : Params) (map fill : List ℕ) (first : ℕ) (image₀ image : List ℕ) (t : ℕ) : Type 0 where

@@ -36,7 +36,7 @@ sectors-here-requires c κs = search needs
 -- the sectors here are among those left, and their places within the area
 left : (c : tie.After-sectors-here Inv-loop μ-loop)
     → c .before .before .loop .i + c .sectors-here .result ≤ c .before .before .before .before .before .args .n
-left c = omega (arith, c .before .loop-test .taken, c .sectors-here .ensures .1)
+left c = omega (arith, c .before .loop-test .taken, c .sectors-here .ensures .2)
 
 room : (c : tie.After-sectors-here Inv-loop μ-loop)
     → c .before .before .loop .at + c .sectors-here .result * c .before .before .before .before .before .args .p .size
@@ -66,8 +66,8 @@ read-part-requires c κs =
     let a = here .before .before .before .before .before in (
       a .pre .0,
       omega (arith, a .pre .1, here .before .loop-test .taken),
-      here .sectors-here .ensures .0,
-      here .sectors-here .ensures .2,
+      here .sectors-here .ensures .1,
+      here .sectors-here .ensures .3,
       simp (length-take, length-drop) (omega (arith, room here)),
     )
 
@@ -95,7 +95,7 @@ loop-less c =
     let a = here .before .before .before .before .before in
     let whole = reading-whole _ _ _ _ _ _ _ _ (here .before .before .loop .inv) (a .pre .0) (a .pre .1) (a .pre .2) _ (left here)
     _ _ _ refl (c .before .before .before .before .before .read-part .ensures) (c .if1 .left) in
-    omega (arith, whole, here .before .loop-test .taken, here .sectors-here .ensures .0)
+    omega (arith, whole, here .before .loop-test .taken, here .sectors-here .ensures .1)
 
 loop-again : tie.Need-loop-again Inv-loop μ-loop
 loop-again c =

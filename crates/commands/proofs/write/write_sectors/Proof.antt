@@ -42,7 +42,7 @@ room : (c : tie.After-sectors-here Inv-loop μ-loop)
     ≤ length (c .before .before .before .before .before .args .given .now)
 room c =
     let a = c .before .before .before .before .before in
-    writing-room _ _ _ _ _ _ _ _ (c .before .before .loop .inv) _ (c .sectors-here .ensures .1) (a .pre .2)
+    writing-room _ _ _ _ _ _ _ _ (c .before .before .loop .inv) _ (c .sectors-here .ensures .2) (a .pre .2)
 
 mul-end : tie.Need-mul-end Inv-loop μ-loop
 mul-end c = omega (arith, room c)
@@ -65,15 +65,15 @@ write-part-requires c κs =
     let a = k .before .before .before .before .before in (
       writing-fits _ _ _ _ _ _ _ _ (k .before .before .loop .inv) (a .pre .0),
       omega (arith, a .pre .1, k .before .loop-test .taken),
-      k .sectors-here .ensures .0,
-      k .sectors-here .ensures .2,
+      k .sectors-here .ensures .1,
+      k .sectors-here .ensures .3,
       simp (length-take, length-drop) (omega (arith, room k)),
     )
 
 add-i : tie.Need-add-i Inv-loop μ-loop
 add-i c =
     let k = c .before .before .before .before .before .before in
-    omega (arith, written-most _ _ _ _ _ _ _ (c .before .before .before .write-part .ensures), k .sectors-here .ensures .1, k .before .loop-test .taken)
+    omega (arith, written-most _ _ _ _ _ _ _ (c .before .before .before .write-part .ensures), k .sectors-here .ensures .2, k .before .loop-test .taken)
 
 same-length : tie.Need-same-length Inv-loop μ-loop
 same-length c = search needs
@@ -82,21 +82,21 @@ returns : tie.Need-returns Inv-loop μ-loop
 returns c =
     let w = c .before .before .before .before .before in
     let k = w .before .before .before in
-    writing-stop _ _ _ _ _ _ _ _ (k .before .before .loop .inv) _ (k .sectors-here .ensures .1) _ _ (w .write-part .ensures) (c .if1 .taken)
+    writing-stop _ _ _ _ _ _ _ _ (k .before .before .loop .inv) _ (k .sectors-here .ensures .2) _ _ (w .write-part .ensures) (c .if1 .taken)
 
 loop-less : tie.Need-loop-less Inv-loop μ-loop
 loop-less c =
     let w = c .before .before .before .before .before in
     let k = w .before .before .before in
     let all = written-all _ _ _ _ _ _ _ (w .write-part .ensures) (c .if1 .left) in
-    omega (arith, all, k .sectors-here .ensures .0, k .before .loop-test .taken)
+    omega (arith, all, k .sectors-here .ensures .1, k .before .loop-test .taken)
 
 loop-again : tie.Need-loop-again Inv-loop μ-loop
 loop-again c =
     let w = c .before .before .before .before .before in
     let k = w .before .before .before in
     let long : length (w .write-part .last .0) ≡ length (k .before .before .loop .image) = search needs in
-    writing-more _ _ _ _ _ _ _ _ (k .before .before .loop .inv) _ (k .sectors-here .ensures .1) _ _ (w .write-part .ensures) (c .if1 .left) long
+    writing-more _ _ _ _ _ _ _ _ (k .before .before .loop .inv) _ (k .sectors-here .ensures .2) _ _ (w .write-part .ensures) (c .if1 .left) long
 
 same-length-2 : tie.Need-same-length-2 Inv-loop μ-loop
 same-length-2 c = search needs

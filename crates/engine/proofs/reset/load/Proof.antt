@@ -7,7 +7,7 @@ use Rattle.engine.proofs.reset.load.Tie as tie
 use Rattle.engine.proofs.reset.load.Reads as reads
 use Rattle.engine.proofs.reset.load.Lts as lts
 use Rattle.engine.proofs.reset.blank_drive.Reads as blank-drive-reads
-use Rattle.geometry.proofs.config.label_config.Reads as label-config-reads
+use Rattle.geometry.proofs.config.config_in.Reads as config-in-reads
 use Rattle.geometry.proofs.config.label_setting.Reads as label-setting-reads
 
 -- src/reset.rt:28:9
@@ -27,8 +27,8 @@ enum-told-2 : tie.Need-enum-told-2
 enum-told-2 c = search needs
 
 -- src/reset.rt:33:21
-label-config-requires : tie.Need-label-config-requires
-label-config-requires c κs = label-long _ _ (c .before .before .label-setting .ensures) _ (c .enum-told2 .given .1)
+config-in-requires : tie.Need-config-in-requires
+config-in-requires c κs = label-long _ _ (c .before .before .label-setting .ensures) _ (c .enum-told2 .given .1)
 
 -- src/reset.rt:25:1
 returns : tie.Need-returns
@@ -36,7 +36,7 @@ returns c = c .blank-drive .ensures ∙ load-invalid _ _ (c .before .before .bef
 
 -- src/reset.rt:25:1
 returns-2 : tie.Need-returns-2
-returns-2 c = load-valid _ _ (c .before .before .before .label-setting .ensures) _ (c .before .enum-told2 .given .1) _ (c .label-config .ensures)
+returns-2 c = load-valid _ _ (c .before .before .before .label-setting .ensures) _ (c .before .enum-told2 .given .1) _ (c .config-in .ensures)
 
 pub load-spec : {M : Type 1} → statement M
 load-spec =
@@ -46,6 +46,6 @@ load-spec =
     enum-told
     blank-drive-requires
     enum-told-2
-    label-config-requires
+    config-in-requires
     returns
     returns-2)

@@ -24,15 +24,15 @@ same-bytes-requires c κs = search needs
 returns-2 : tie.Need-returns-2
 returns-2 c = label-other _ _ (c .before .same-bytes .ensures) (c .if2 .taken)
 
-label-config-requires : tie.Need-label-config-requires
-label-config-requires c κs = search needs
+config-in-requires : tie.Need-config-in-requires
+config-in-requires c κs = search needs
 
 setting-of-requires : tie.Need-setting-of-requires
 setting-of-requires c κs = search needs
 
 returns-3 : tie.Need-returns-3
 returns-3 c =
-    label-zeros _ _ (c .before .before .before .same-bytes .ensures) (c .before .before .if2 .left) _ (c .before .label-config .ensures) _
+    label-zeros _ _ (c .before .before .before .same-bytes .ensures) (c .before .before .if2 .left) _ (c .before .config-in .ensures) _
     (c .setting-of .ensures)
 
 pub label-setting-spec : {M : Type 1} → statement M
@@ -46,6 +46,6 @@ label-setting-spec =
     slice-aggregate-same-bytes
     same-bytes-requires
     returns-2
-    label-config-requires
+    config-in-requires
     setting-of-requires
     returns-3)

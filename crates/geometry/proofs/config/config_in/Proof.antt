@@ -1,8 +1,8 @@
 use borrow.Author.Needs.{needs}
 use mathlib.Core.Path.{refl, _∙_}
 use Rattle.base.proofs.Parts.{part-lent}
-use Rattle.geometry.proofs.config.label_config.Statement.{statement}
-use Rattle.geometry.proofs.config.label_config.Tie as tie
+use Rattle.geometry.proofs.config.config_in.Statement.{statement}
+use Rattle.geometry.proofs.config.config_in.Tie as tie
 
 slice-aggregate-copy-bytes : tie.Need-slice-aggregate-copy-bytes
 slice-aggregate-copy-bytes c = search needs
@@ -22,8 +22,8 @@ copy-bytes-requires c κs = search needs
 returns : tie.Need-returns
 returns c = c .before .copy-bytes .ensures ∙ part-lent 0 10 10 _ refl
 
-pub label-config-spec : {M : Type 1} → statement M
-label-config-spec =
+pub config-in-spec : {M : Type 1} → statement M
+config-in-spec =
     tie.close
     (tie.spec
     slice-aggregate-copy-bytes
