@@ -1,22 +1,17 @@
-//! Comparison of any engine with the judges, on seeded calls. An engine is made by a closure from
+//! Comparison of any engine with the document, on seeded calls. An engine is made by a closure from
 //! a controller record.
 
-use std::fmt;
 use std::mem::take;
-use std::ops::AddAssign;
 use std::time::{Duration, Instant};
 
+use crate::duplicates;
 use crate::engine::{apply, Call, Engine, Step};
-use crate::legal::{self, Setting};
 use crate::machine::{Machine, Reply};
+use crate::outcome::{Outcome, Setting};
 use crate::paper::{self, Geometry};
-use crate::plain::{Answer, Controller, Drive};
+use crate::plain::{Answer, Controller};
 use crate::random::{self, Caller, Random, Scale};
-
-/// The sense codes of document 01.
-pub const CODES: [u8; 16] = [
-    0x04, 0x0A, 0x10, 0x12, 0x14, 0x15, 0x16, 0x19, 0x1A, 0x1C, 0x1D, 0x1E, 0x1F, 0x20, 0x21, 0x22,
-];
+use crate::tally::{Table, Tally};
 
 /// Runs of either kind in [`agree`].
 const RUNS: u64 = 4;
@@ -28,8 +23,8 @@ const TIME_PER_RUN: Duration = Duration::from_millis(2_500);
 const LISTS: [(Scale, u64); 2] = [(Scale::Wide, 2), (Scale::Small, 1_000)];
 const DAMAGED: [(Scale, u64); 2] = [(Scale::Wide, 3), (Scale::Small, 3_000)];
 
-/// Each list of this many is also judged call by call, with every byte of its images.
-const LISTS_PER_JUDGED_LIST: u64 = 4;
+/// One list of so many is also compared by the whole outcome of every call.
+const LISTS_PER_WHOLE_COMPARISON: u64 = 4;
 
 /// How much is to be tried: so many starts from seeds `seed`, `seed + 1` and so on, but none
 /// begun after the deadline.
@@ -40,119 +35,8 @@ pub struct Bounds {
     pub deadline: Instant,
 }
 
-/// What was reached.
-#[derive(Clone)]
-pub struct Tally {
-    pub starts: u64,
-    pub calls: u64,
-    pub resets: u64,
-    /// Calls that ended with number 0 and no code.
-    pub good: u64,
-    /// Sectors whose bytes were looked up in the images at the end of lists.
-    pub looked_up: u64,
-    /// Initializes that ended well, by whether they left the drive pending.
-    pub settled: u64,
-    pub pending: u64,
-    pub numbers: [u64; 4],
-    pub codes: [u64; 128],
-}
-
-impl Default for Tally {
-    fn default() -> Tally {
-        Tally {
-            starts: 0,
-            calls: 0,
-            resets: 0,
-            good: 0,
-            looked_up: 0,
-            settled: 0,
-            pending: 0,
-            numbers: [0; 4],
-            codes: [0; 128],
-        }
-    }
-}
-
-impl AddAssign<&Tally> for Tally {
-    fn add_assign(&mut self, other: &Tally) {
-        self.starts += other.starts;
-        self.calls += other.calls;
-        self.resets += other.resets;
-        self.good += other.good;
-        self.looked_up += other.looked_up;
-        self.settled += other.settled;
-        self.pending += other.pending;
-        add_each(&mut self.numbers, &other.numbers);
-        add_each(&mut self.codes, &other.codes);
-    }
-}
-
-fn add_each(sums: &mut [u64], more: &[u64]) {
-    for (sum, more) in sums.iter_mut().zip(more) {
-        *sum += more;
-    }
-}
-
-impl Tally {
-    /// Counts a call by its answer and the drives that it left.
-    fn count(&mut self, call: &Call, answer: &Answer, drives: &[Drive; 4]) {
-        self.calls += 1;
-        let Call::Execute { block, .. } = call else {
-            self.resets += 1;
-            return;
-        };
-        let drive = &drives[usize::from(answer.status >> 5 & 3)];
-        if answer.number != 0 {
-            self.numbers[usize::from(answer.number & 3)] += 1;
-        } else if answer.status & 2 != 0 {
-            self.codes[usize::from(drive.sense[0] & 0x7F)] += 1;
-        } else {
-            self.good += 1;
-            let initialized = block[0] == 0x11;
-            self.settled += u64::from(initialized && !drive.pending);
-            self.pending += u64::from(initialized && drive.pending);
-        }
-    }
-
-    /// The codes and numbers of document 01 that were not reached.
-    pub fn missing(&self) -> Vec<String> {
-        let codes = CODES.iter().filter(|&&code| self.codes[usize::from(code)] == 0);
-        let numbers = (1..4).filter(|&number| self.numbers[number] == 0);
-        let codes = codes.map(|code| format!("code {code:02X}h"));
-        codes.chain(numbers.map(|number| format!("number {number}"))).collect()
-    }
-}
-
-/// The tallies of lists and of damaged images side by side.
-pub struct Table<'a> {
-    pub lists: &'a Tally,
-    pub damaged: &'a Tally,
-}
-
-impl fmt::Display for Table<'_> {
-    fn fmt(&self, f: &mut fmt::Formatter) -> fmt::Result {
-        let (l, d) = (self.lists, self.damaged);
-        writeln!(f, "{:<16}{:>12}{:>12}", "reached", "lists", "damaged")?;
-        for code in CODES {
-            let at = usize::from(code);
-            writeln!(f, "code {code:02X}h        {:>12}{:>12}", l.codes[at], d.codes[at])?;
-        }
-        for number in 1..4 {
-            let (l, d) = (l.numbers[number], d.numbers[number]);
-            writeln!(f, "number {number}        {l:>12}{d:>12}")?;
-        }
-        writeln!(f, "{:<16}{:>12}{:>12}", "good", l.good, d.good)?;
-        writeln!(f, "{:<16}{:>12}{:>12}", "11h settled", l.settled, d.settled)?;
-        writeln!(f, "{:<16}{:>12}{:>12}", "11h pending", l.pending, d.pending)?;
-        writeln!(f, "{:<16}{:>12}{:>12}", "resets", l.resets, d.resets)?;
-        writeln!(f, "{:<16}{:>12}{:>12}", "calls", l.calls, d.calls)?;
-        writeln!(f, "{:<16}{:>12}{:>12}", "starts", l.starts, d.starts)?;
-        write!(f, "{:<16}{:>12}{:>12}", "looked up", l.looked_up, d.looked_up)
-    }
-}
-
 /// The whole comparison: prints the seed of each run and the table of what was reached; panics
-/// where the engine does not agree, or where a code or number was not reached.
+/// where the engine does not agree, or where something wanted was not reached.
 pub fn agree<E: Engine>(make: &impl Fn(&Controller) -> E, first_seed: u64) {
     let lists = runs("lists", &LISTS, first_seed, |scale, bounds| lists(make, scale, bounds));
     let damaged =
@@ -189,8 +73,8 @@ fn runs(
     sum
 }
 
-/// (1) Lists from fresh zero images, the first of the scale asked for: every answer and the data handed over are the machine's, and
-/// in the end the images hold what the machine holds.
+/// (1) Lists from fresh zero images, the first of the scale asked for: every answer and the data
+/// handed over are the machine's, and in the end the images hold what the machine holds.
 pub fn lists<E: Engine>(
     make: &impl Fn(&Controller) -> E,
     scale: Scale,
@@ -199,7 +83,7 @@ pub fn lists<E: Engine>(
     each_start(bounds, |seed, tally| one_list(make, scale, seed, tally))
 }
 
-/// (2) Damaged images and arbitrary records: every call's outcome is legal.
+/// (2) Damaged images and arbitrary records: every call's outcome is the document's.
 pub fn damaged<E: Engine>(
     make: &impl Fn(&Controller) -> E,
     scale: Scale,
@@ -258,8 +142,8 @@ fn one_list<E: Engine>(
     let engine = make(&random::record(&mut random, [None, None]));
     let calls = 30 + random.below(120);
     let mut caller = Caller::new(random, scale, lengths);
-    let judged = seed.is_multiple_of(LISTS_PER_JUDGED_LIST);
-    let mut list = List { engine, machine: Machine::fresh(lengths), images, judged };
+    let whole = seed.is_multiple_of(LISTS_PER_WHOLE_COMPARISON);
+    let mut list = List { engine, machine: Machine::fresh(lengths), images, whole };
     let first = Step { call: Call::Reset, area: Vec::new() };
     let others = (0..calls).map(|_| caller.step());
     let steps = std::iter::once(first).chain(others).chain(closing_steps());
@@ -277,7 +161,8 @@ struct List<E> {
     engine: E,
     machine: Machine,
     images: [Vec<u8>; 2],
-    judged: bool,
+    /// Whether whole outcomes are compared.
+    whole: bool,
 }
 
 impl<E: Engine> List<E> {
@@ -287,8 +172,8 @@ impl<E: Engine> List<E> {
             Call::Execute { block, given } => self.machine.command(block, given, step.area.len()),
         };
         let mut area = step.area.clone();
-        let answer = if self.judged {
-            judged_call(&mut self.engine, &step.call, &mut area, &mut self.images)?
+        let answer = if self.whole {
+            compared_call(&mut self.engine, &step.call, &mut area, &mut self.images, tally)?
         } else {
             apply(&mut self.engine, &step.call, &mut area, &mut self.images)
         };
@@ -298,21 +183,20 @@ impl<E: Engine> List<E> {
     }
 }
 
-/// Lets an engine do a call and judges the outcome.
-fn judged_call<E: Engine>(
+/// Lets an engine do a call and compares the whole outcome.
+fn compared_call<E: Engine>(
     engine: &mut E,
     call: &Call,
     area: &mut Vec<u8>,
     images: &mut [Vec<u8>; 2],
+    tally: &mut Tally,
 ) -> Result<Answer, String> {
-    let controller = engine.record();
-    let mut after = Setting { controller, area: take(area), images: take(images) };
-    let before = after.clone();
-    let answer = apply(engine, call, &mut after.area, &mut after.images);
-    after.controller = engine.record();
-    legal::check(&before, call, &answer, &after)?;
-    (*area, *images) = (after.area, after.images);
-    Ok(answer)
+    let before = Setting { controller: engine.record(), area: take(area), images: take(images) };
+    let found = Outcome::by(engine, before.clone(), call);
+    Outcome::of(before, call).compare(&found)?;
+    tally.count_duplicates(duplicates::met(call, &found));
+    (*area, *images) = (found.setting.area, found.setting.images);
+    Ok(found.answer)
 }
 
 fn same_reply(reply: &Reply, answer: &Answer, lent: &[u8], area: &[u8]) -> Result<(), String> {
@@ -338,9 +222,9 @@ fn look_up(machine: &Machine, drive: usize, image: &[u8]) -> Result<u64, String>
     let mut looked_up = 0;
     for (address, bytes) in machine.held(drive) {
         let (track, sector) = geometry.split(address);
-        let slots = paper::matching_slots(image, &geometry, track, sector)
+        let slot = paper::found_slot(image, &geometry, track, sector)
             .map_err(|code| format!("drive {drive}, address {address}: {code:02X}h"))?;
-        if slots.into_iter().any(|slot| &image[slot] != bytes) {
+        if &image[slot] != bytes {
             return Err(format!("drive {drive}, address {address}: not the machine's bytes"));
         }
         looked_up += 1;
@@ -363,7 +247,7 @@ fn one_damaged<E: Engine>(
         }
         let step = caller.step();
         let mut area = step.area.clone();
-        let answer = judged_call(&mut engine, &step.call, &mut area, &mut images)
+        let answer = compared_call(&mut engine, &step.call, &mut area, &mut images, tally)
             .map_err(|what| at_call(index, &step, what))?;
         tally.count(&step.call, &answer, &engine.record().drives);
     }

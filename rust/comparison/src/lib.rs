@@ -3,16 +3,19 @@
 //! it (document 02) are added one by one, with the proved engine's.
 //!
 //! - [`plain`]: the engine on images.
-//! - [`machine`], [`legal`]: the judges, on the terms of [`paper`], which `plain` does not use, so
-//!   that a slip in one is not repeated in the other.
+//! - [`machine`], [`outcome`]: what a call comes to, on the terms of [`paper`], which `plain` does
+//!   not use, so that a slip in one is not repeated in the other.
 //! - [`random`], [`compare`], [`examples`]: what is tried, for any [`engine::Engine`].
+//! - [`duplicates`], [`tally`]: what was reached.
 
 pub mod compare;
+pub mod duplicates;
 pub mod engine;
 pub mod examples;
-pub mod legal;
 pub mod machine;
+pub mod outcome;
 pub mod paper;
 pub mod plain;
 pub mod proved;
 pub mod random;
+pub mod tally;

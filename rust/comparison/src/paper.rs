@@ -1,5 +1,5 @@
-//! Document 01's terms for the judges: parameters, slots, finding and the order of checks, put as
-//! the document puts them and without regard to speed. `plain` uses none of this.
+//! Document 01's terms: parameters, slots, finding and the order of checks, put as the document
+//! puts them and without regard to speed. `plain` uses none of this.
 
 use std::ops::Range;
 
@@ -173,25 +173,23 @@ pub fn searched_track(image: &[u8], geometry: &Geometry, track: u32) -> Result<u
     }
 }
 
-/// The data places of every slot that finding may use.
-pub fn matching_slots(
+/// Whether the slot holds the sector, as finding sees it.
+pub fn holds(image: &[u8], geometry: &Geometry, track: u32, slot: u32, sector: u32) -> bool {
+    let id = &image[geometry.slot(track, slot)][..ID];
+    id[0] == 0xA1 && u32::from(id[4]) == sector
+}
+
+/// The data place of the slot that finding uses: the first on the searched track (request E2).
+pub fn found_slot(
     image: &[u8],
     geometry: &Geometry,
     track: u32,
     sector: u32,
-) -> Result<Vec<Range<usize>>, u8> {
+) -> Result<Range<usize>, u8> {
     let searched = searched_track(image, geometry, track)?;
-    let matches = |slot: &u32| {
-        let start = geometry.slot(searched, *slot).start;
-        image[start] == 0xA1 && u32::from(image[start + 4]) == sector
-    };
-    let slots = (0..geometry.sectors).filter(matches);
-    let places: Vec<_> = slots.map(|slot| geometry.slot_data(searched, slot)).collect();
-    if places.is_empty() {
-        Err(0x14)
-    } else {
-        Ok(places)
-    }
+    let mut slots = 0..geometry.sectors;
+    let first = slots.find(|&slot| holds(image, geometry, searched, slot, sector));
+    first.map(|slot| geometry.slot_data(searched, slot)).ok_or(0x14)
 }
 
 /// A code with the address that belongs to it if it gives one.
@@ -233,7 +231,8 @@ pub struct Request {
 }
 
 impl Request {
-    fn read(block: &[u8]) -> Request {
+    /// The fields of six bytes.
+    pub fn read(block: &[u8]) -> Request {
         Request {
             opcode: block[0],
             drive: usize::from(block[1] % 128 / 32),

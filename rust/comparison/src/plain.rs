@@ -1,5 +1,5 @@
 //! A plain engine on images: one pass over the bytes that a command needs, nothing kept between
-//! calls but the controller record. Among duplicate slots the first is used.
+//! calls but the controller record. Of several slots that hold a sector the first is used.
 
 #![forbid(unsafe_code)]
 

@@ -159,10 +159,10 @@ pub fn list_length(random: &mut Random, scale: Scale) -> usize {
     match random.below(100) {
         0..=6 => random.size_below(LABEL),
         7..=9 => LABEL + random.size_below(200),
-        choice => {
+        draw => {
             let (_, geometry) = any_geometry(random, scale);
             let exact = geometry.image_length();
-            match choice {
+            match draw {
                 10..=15 => exact - 1,
                 16..=69 => exact,
                 _ => exact + random.size_below(9000),
@@ -630,7 +630,7 @@ fn write_tracks(random: &mut Random, image: &mut [u8], geometry: &Geometry, beli
     }
 }
 
-/// Slots that are nearly right, each field chosen for itself: duplicates and gaps everywhere.
+/// Slots that are nearly right, each field drawn for itself: duplicates and gaps everywhere.
 fn write_hostile_tracks(random: &mut Random, image: &mut [u8], geometry: &Geometry) {
     for track in 0..geometry.tracks() {
         for slot in 0..geometry.sectors {
@@ -646,10 +646,11 @@ fn write_hostile_tracks(random: &mut Random, image: &mut [u8], geometry: &Geomet
     }
 }
 
-/// Changes one field of one slot, mostly slot 0, or of a whole track, or the label.
+/// Changes one field of one slot, mostly slot 0, or of a whole track, or the label, or lets a slot
+/// repeat another's sector.
 fn damage(random: &mut Random, image: &mut [u8], geometry: &Geometry) {
     let track = random.below(geometry.tracks());
-    match random.below(20) {
+    match random.below(24) {
         0 => {
             let at = random.size_below(LABEL);
             image[at] = random.byte();
@@ -663,6 +664,13 @@ fn damage(random: &mut Random, image: &mut [u8], geometry: &Geometry) {
             for slot in 0..geometry.sectors {
                 image[geometry.slot(track, slot).start + field] = value;
             }
+        }
+        4..=7 => {
+            // On the partner of a moved track, where its sectors are searched.
+            let searched = paper::searched_track(image, geometry, track).unwrap_or(track);
+            let [from, to] = [(); 2].map(|()| random.below(geometry.sectors));
+            let sector = image[geometry.slot(searched, from).start + 4];
+            image[geometry.slot(searched, to).start + 4] = sector;
         }
         _ => {
             let slot = if random.chance(50) { 0 } else { random.below(geometry.sectors) };

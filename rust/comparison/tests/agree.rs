@@ -1,4 +1,5 @@
-//! The plain engine and the proved library agree with the plain machine on lists, and are legal on damaged images.
+//! The plain engine and the proved library agree with the plain machine on lists, and with the
+//! document's outcome of every call, byte for byte, on damaged images.
 //!
 //! `LANTHEWG_SEED` sets another seed; run with `--nocapture` for the seeds and the table.
 

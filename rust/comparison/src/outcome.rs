@@ -1,13 +1,12 @@
-//! Whether one call's outcome is one that document 01, with its requests, allows, on any images and
-//! any controller record. The outcome that the document fixes is built and compared byte for byte;
-//! only the slot of each sector of a Read or Write is taken, among the matching ones, as the engine
-//! took it.
+//! The outcome of one call, as document 01 and its requests fix it, on any images and any
+//! controller record: one for each call, so an engine's is compared with it by equality. One thing
+//! is our choice: a drive that Reset leaves without parameters has a record of zeros.
 
 use std::ops::Range;
 
-use crate::engine::Call;
+use crate::engine::{apply, Call, Engine};
 use crate::paper::{self, Condition, Fault, Geometry, Request, Stop, View};
-use crate::plain::{Answer, Controller};
+use crate::plain::{Answer, Controller, Drive};
 
 /// A slot's data, as a part of its image.
 type Place = Range<usize>;
@@ -20,71 +19,72 @@ pub struct Setting {
     pub images: [Vec<u8>; 2],
 }
 
-/// Ok if `call` may turn `before` into `after` and return `answer`.
-pub fn check(
-    before: &Setting,
-    call: &Call,
-    answer: &Answer,
-    after: &Setting,
-) -> Result<(), String> {
-    same_lengths(before, after)?;
-    let mut expected = Expected {
-        answer: Answer::default(),
-        setting: before.clone(),
-        before,
-        after,
-        notes: String::new(),
-    };
-    match call {
-        Call::Reset => expected.reset(),
-        Call::Execute { block, given } => expected.execute(block, given),
+impl Setting {
+    /// A drive as the order of checks sees it.
+    pub fn view(&self, drive: usize) -> View {
+        let length = self.images.get(drive).map_or(0, Vec::len);
+        let record = &self.controller.drives[drive];
+        let geometry = Geometry::read(&record.config, length).filter(|_| record.known);
+        View { present: length >= paper::LABEL, geometry, pending: record.pending }
     }
-    expected.compare(answer).map_err(|what| format!("{what}{}", expected.notes))
 }
 
-fn same_lengths(before: &Setting, after: &Setting) -> Result<(), String> {
-    let lengths =
-        |setting: &Setting| [setting.area.len(), setting.images[0].len(), setting.images[1].len()];
-    if lengths(before) == lengths(after) {
+/// What a call answers, and what it leaves of its setting.
+#[derive(Clone, Debug, PartialEq, Eq)]
+pub struct Outcome {
+    pub answer: Answer,
+    pub setting: Setting,
+}
+
+impl Outcome {
+    /// The outcome that the document fixes.
+    pub fn of(before: Setting, call: &Call) -> Outcome {
+        let mut outcome = Outcome { answer: Answer::default(), setting: before };
+        match call {
+            Call::Reset => outcome.reset(),
+            Call::Execute { block, given } => outcome.execute(block, given),
+        }
+        outcome
+    }
+
+    /// The outcome that an engine, whose record is the setting's, reaches.
+    pub fn by<E: Engine>(engine: &mut E, before: Setting, call: &Call) -> Outcome {
+        let mut setting = before;
+        let answer = apply(engine, call, &mut setting.area, &mut setting.images);
+        setting.controller = engine.record();
+        Outcome { answer, setting }
+    }
+
+    /// Ok if an engine's outcome is the same, else the first difference.
+    pub fn compare(&self, found: &Outcome) -> Result<(), String> {
+        same("answer", &self.answer, &found.answer)?;
+        let (expected, found) = (&self.setting, &found.setting);
+        same_bytes("buffer", &expected.controller.buffer, &found.controller.buffer)?;
+        for drive in 0..4 {
+            let (expected, found) = (&expected.controller.drives, &found.controller.drives);
+            same(&format!("drive {drive} record"), &expected[drive], &found[drive])?;
+        }
+        same_bytes("area", &expected.area, &found.area)?;
+        for drive in 0..2 {
+            same_bytes(&format!("image {drive}"), &expected.images[drive], &found.images[drive])?;
+        }
         Ok(())
-    } else {
-        Err("lengths of area or images changed".to_string())
     }
-}
 
-/// The outcome that the document fixes, as it is built.
-struct Expected<'a> {
-    answer: Answer,
-    setting: Setting,
-    before: &'a Setting,
-    /// The outcome under judgement: looked at for the free choice of slots and for what a drive
-    /// without parameters keeps in its record, and for nothing else.
-    after: &'a Setting,
-    notes: String,
-}
-
-impl Expected<'_> {
     fn reset(&mut self) {
         self.setting.controller.buffer = [0; 512];
         for drive in 0..4 {
             let label = self.setting.images.get(drive).and_then(|image| paper::label(image));
-            let record = &mut self.setting.controller.drives[drive];
-            record.sense = [0; 4];
-            record.known = label.is_some();
-            match label {
-                Some(config) => (record.config, record.pending) = (config, false),
-                // The document says nothing of a configuration that is not in force.
-                None => {
-                    let left = &self.after.controller.drives[drive];
-                    (record.config, record.pending) = (left.config, left.pending);
-                }
-            }
+            self.setting.controller.drives[drive] = match label {
+                Some(config) => Drive { config, known: true, ..Drive::default() },
+                None => Drive::default(),
+            };
         }
     }
 
     fn execute(&mut self, block: &[u8], given: &[u8]) {
         let area = self.setting.area.len();
-        let admitted = paper::admit(block, given.len(), area, |drive| self.view(drive));
+        let admitted = paper::admit(block, given.len(), area, |drive| self.setting.view(drive));
         let (drive, ended) = match admitted {
             Err(Stop::Number(number)) => {
                 self.answer.number = number;
@@ -102,13 +102,6 @@ impl Expected<'_> {
         self.answer.status = 32 * drive as u8 + if ended.is_err() { 2 } else { 0 };
         let fault = ended.err().unwrap_or(Fault { code: 0, address: 0 });
         self.setting.controller.drives[drive].sense = paper::sense(drive, fault);
-    }
-
-    fn view(&self, drive: usize) -> View {
-        let length = self.setting.images.get(drive).map_or(0, Vec::len);
-        let record = &self.setting.controller.drives[drive];
-        let geometry = Geometry::read(&record.config, length).filter(|_| record.known);
-        View { present: length >= paper::LABEL, geometry, pending: record.pending }
     }
 
     fn hand_over(&mut self, bytes: &[u8]) {
@@ -132,7 +125,8 @@ impl Expected<'_> {
     }
 
     fn perform_on_drive(&mut self, request: &Request, given: &[u8]) -> Result<(), Fault> {
-        let geometry = self.view(request.drive).geometry.expect("admitted with parameters");
+        let view = self.setting.view(request.drive);
+        let geometry = view.geometry.expect("admitted with parameters");
         match request.opcode {
             0x04 => self.format_drive(request, &geometry),
             0x05 => self.check_track(request, &geometry),
@@ -251,71 +245,31 @@ impl Expected<'_> {
         Ok(())
     }
 
-    /// The matching slots of the transfer's sector `k`. A transfer changes no ID, and no sector's
-    /// slot is another's, so the image before it serves for all of its sectors.
-    fn slots(&self, request: &Request, geometry: &Geometry, k: u32) -> Result<Vec<Place>, Fault> {
+    /// The data of the transfer's sector `k`, in the image.
+    fn found_slot(&self, request: &Request, geometry: &Geometry, k: u32) -> Result<Place, Fault> {
         let address = request.address + k;
         let (track, sector) = geometry.split(address);
-        let image = &self.before.images[request.drive];
-        paper::matching_slots(image, geometry, track, sector)
+        paper::found_slot(self.image(request), geometry, track, sector)
             .map_err(|code| Fault { code, address })
     }
 
-    /// The first slot that fits the outcome; where none does, the first, whose bytes will then be
-    /// found to differ.
-    fn choose(&mut self, k: u32, slots: &[Place], fits: impl Fn(&Place) -> bool) -> Place {
-        let chosen = slots.iter().find(|&slot| fits(slot));
-        if chosen.is_none() {
-            let note = format!("; sector {k} fits none of its {} matching slots", slots.len());
-            self.notes.push_str(&note);
-        }
-        chosen.unwrap_or(&slots[0]).clone()
-    }
-
     fn read(&mut self, request: &Request, geometry: &Geometry) -> Result<(), Fault> {
-        let image = &self.before.images[request.drive];
         for k in 0..request.count {
-            let slots = self.slots(request, geometry, k)?;
-            let handed = &self.after.area[k as usize * geometry.data..][..geometry.data];
-            let slot = self.choose(k, &slots, |slot| &image[slot.clone()] == handed);
-            self.hand_over(&image[slot.clone()]);
-            self.leave_in_buffer(&image[slot]);
+            let slot = self.found_slot(request, geometry, k)?;
+            let bytes = self.image(request)[slot].to_vec();
+            self.hand_over(&bytes);
+            self.leave_in_buffer(&bytes);
             self.answer.sectors += 1;
         }
         Ok(())
     }
 
     fn write(&mut self, request: &Request, geometry: &Geometry, given: &[u8]) -> Result<(), Fault> {
-        let before = &self.before.images[request.drive];
-        let after = &self.after.images[request.drive];
-        for k in 0..request.count {
-            let slots = self.slots(request, geometry, k)?;
-            let bytes = &given[k as usize * geometry.data..][..geometry.data];
-            let slot = self.choose(k, &slots, |chosen| {
-                slots.iter().all(|slot| {
-                    let wanted = if slot == chosen { bytes } else { &before[slot.clone()] };
-                    &after[slot.clone()] == wanted
-                })
-            });
+        for (k, bytes) in (0..request.count).zip(given.chunks_exact(geometry.data)) {
+            let slot = self.found_slot(request, geometry, k)?;
             self.setting.images[request.drive][slot].copy_from_slice(bytes);
             self.leave_in_buffer(bytes);
             self.answer.sectors += 1;
-        }
-        Ok(())
-    }
-
-    fn compare(&self, answer: &Answer) -> Result<(), String> {
-        same("answer", &self.answer, answer)?;
-        let (expected, after) = (&self.setting.controller, &self.after.controller);
-        same_bytes("buffer", &expected.buffer, &after.buffer)?;
-        for drive in 0..4 {
-            let (expected, after) = (&expected.drives[drive], &after.drives[drive]);
-            same(&format!("drive {drive} record"), expected, after)?;
-        }
-        same_bytes("area", &self.setting.area, &self.after.area)?;
-        for drive in 0..2 {
-            let name = format!("image {drive}");
-            same_bytes(&name, &self.setting.images[drive], &self.after.images[drive])?;
         }
         Ok(())
     }
@@ -334,7 +288,9 @@ fn same_bytes(name: &str, expected: &[u8], found: &[u8]) -> Result<(), String> {
         return Ok(());
     }
     let differs = |(e, f): (&u8, &u8)| e != f;
-    let at = expected.iter().zip(found).position(differs).expect("equal lengths that differ");
+    let Some(at) = expected.iter().zip(found).position(differs) else {
+        return Err(format!("{name}: expected {} bytes, found {}", expected.len(), found.len()));
+    };
     let (e, f) = (expected[at], found[at]);
     Err(format!("{name}, byte {at}: expected {e:02X}h, found {f:02X}h"))
 }
