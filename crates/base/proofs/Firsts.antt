@@ -67,6 +67,18 @@ unfolding firstFrom
 from-none test k zero i e l h = absurd (omega arith)
 from-none test k (suc c) i e l h = step-none test k c i (test k) refl e l h (λ e′ l′ h′. from-none test (suc k) c i e′ l′ h′) (ℕ-discrete i k)
 
+step-before : (test : ℕ → Bool) (k c i j : ℕ) (b : Bool) → test k ≡ b → pick b (some k) (firstFrom test (suc k) c) ≡ some i → k ≤ j → j < i
+    → (firstFrom test (suc k) c ≡ some i → suc k ≤ j → test j ≡ false) → Dec (j ≡ k) → test j ≡ false
+unfolding pick
+step-before test k c i j true z e l h ih d = let q : k ≡ i = cc in absurd (omega arith)
+step-before test k c i j false z e l h ih (yes q) = ap test q ∙ z
+step-before test k c i j false z e l h ih (no q) = ih e (omega arith)
+
+from-before : (test : ℕ → Bool) (k c i j : ℕ) → firstFrom test k c ≡ some i → k ≤ j → j < i → test j ≡ false
+unfolding firstFrom
+from-before test k zero i j e l h = absurd (let z : _≡_ {A = ℕ} 0 1 = cc in omega arith)
+from-before test k (suc c) i j e l h = step-before test k c i j (test k) refl e l h (λ e′ l′. from-before test (suc k) c i j e′ l′ h) (ℕ-discrete j k)
+
 none-from : (test : ℕ → Bool) (k c : ℕ) → ((i : ℕ) → k ≤ i → i < k + c → test i ≡ false) → firstFrom test k c ≡ none
 unfolding firstFrom pick
 none-from test k zero h = refl
@@ -76,6 +88,11 @@ module _ (test : ℕ → Bool) (n : ℕ) where
   pub first-some : (i : ℕ) → firstBelow test n ≡ some i → (i < n) × (test i ≡ true)
   unfolding firstBelow
   first-some i e = let r = from-some test 0 n i e in (omega (arith, r .1), r .2)
+
+  -- and none before it passes
+  pub first-before : (i : ℕ) → firstBelow test n ≡ some i → (j : ℕ) → j < i → test j ≡ false
+  unfolding firstBelow
+  first-before i e j h = from-before test 0 n i j e (omega arith) h
 
   pub first-none : firstBelow test n ≡ none → (i : ℕ) → i < n → test i ≡ false
   unfolding firstBelow

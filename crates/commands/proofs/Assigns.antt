@@ -4,7 +4,6 @@ use mathlib.Core.Bool.{Bool, _||_}
 use mathlib.Core.List.{List, [], _∷_}
 use Prim.Native.Nat.{ℕ, _-_, _≤_, _<_}
 use native.Mathlib.Omega.{arith}
-use native.Mathlib.Nat.{div-lt-iff-lt-mul}
 use lib.ListN.{take}
 use lib.Dec.{eqb}
 use borrow.Author.Tests.{lt-ltb, le-ltb, ltb-false}
@@ -15,6 +14,7 @@ use Rattle.geometry.specs.declared.params.Track.{Track}
 use Rattle.geometry.specs.declared.params.Params.{Params}
 use Rattle.geometry.specs.Params.{Within, trackCount, trackOf, lastAddress}
 use Rattle.geometry.specs.Config.{byte}
+use Rattle.geometry.proofs.Addresses.{track-in}
 use Rattle.geometry.proofs.Sizes.{sectors-some}
 use Rattle.track.specs.declared.id.State.{State}
 use Rattle.track.specs.declared.id.State.the-variants.{Moved, Taken}
@@ -28,8 +28,8 @@ use Rattle.model.specs.Block.{fromBuffer, alternateOf}
 use Rattle.model.specs.Checks.{on, judged}
 use Rattle.model.specs.Record.{bareOutcome, failedOutcome, goodOutcome}
 use Rattle.model.specs.Commands.{isBad, isMoved, isTaken, plainFill, madeAt, assignTests, assigned, assignAlternate}
-use Rattle.control.specs.Leaves.{silent}
 use Rattle.model.proofs.Judged.{judged-hit, judged-on, passed-on, fault-in, fault-none, passed-faulty}
+use Rattle.control.specs.Leaves.{silent}
 use Rattle.commands.proofs.Endings.{ends-refused, ends-faulty, ends-well}
 use Rattle.commands.proofs.Makings.{fill-lent}
 use Rattle.commands.proofs.Formats.{fill-is}
@@ -39,7 +39,7 @@ pub alternate-in : (p : Params) → Within p → (alternate last : Lba) → last
     → trackOf p alternate .0 < trackCount p
 alternate-in p w alternate last el h =
     let k : alternate .0 ≤ lastAddress p .0 = rw el at h in
-    div-lt-iff-lt-mul {k = p .sectors} (omega (arith, w .sectors-some)) .1 (omega (arith, sectors-some p w))
+    track-in p w alternate (omega (arith, sectors-some p w))
 
 -- what its own checks say of an image
 abbrev pub verdictOn : Params → (first : ℕ) → (a alternate : Lba) → List ℕ → Verdict

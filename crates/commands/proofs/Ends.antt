@@ -9,12 +9,13 @@ use lib.ListN.{length}
 use lib.Dec.{eqb}
 use Rattle.base.specs.Pick.{pick}
 use Rattle.base.specs.Part.{splice}
+use Rattle.sectors.specs.Transfer.{Transfer}
 use Rattle.model.specs.declared.block.Block.{Block}
 use Rattle.model.specs.declared.record.Drive.{Drive}
 use Rattle.model.specs.declared.record.Controller.{Controller}
 use Rattle.model.specs.Block.{countOf}
 use Rattle.model.specs.Record.{withBuffer, good, failed}
-use Rattle.model.specs.Transfer.{Transfer, transferred}
+use Rattle.model.specs.Commands.{transferred}
 use Rattle.control.specs.declared.record.Ending.{Ending}
 use Rattle.control.specs.Leaves.{recordOf, leftWith, Leaves}
 use Rattle.commands.specs.Transfers.{finishOf}

@@ -1,11 +1,10 @@
 -- The last of some sectors that lie one behind the other.
-use mathlib.Core.Path.{_≡_, refl, sym, ap, _∙_}
-use mathlib.Core.List.{List, _++_}
+use mathlib.Core.Path.{_≡_, refl, ap, _∙_}
+use mathlib.Core.List.{List, []}
 use Prim.Native.Nat.{ℕ, zero, suc, _+_, _-_, _*_, _≤_}
 use native.Mathlib.Omega.{arith}
 use lib.ListN.{length, take, drop}
 use Rattle.base.specs.Part.{part, splice}
-use lib.Seq.{take-all, drop-at}
 use Rattle.base.proofs.Parts.{cell-in, part-lent, part-left}
 use Rattle.commands.specs.Transfers.{lastOf}
 
@@ -35,7 +34,8 @@ unfolding lastOf splice
 last-front zero size xs ys h = refl
 last-front (suc n) size xs ys h = part-left (n * size) size xs (drop (0 + length xs) ys) (omega (arith, cell-in size n (suc n) (omega arith)))
 
--- one more sector is the last
-pub last-more : (n size : ℕ) (xs ys : List ℕ) → length xs ≡ n * size → length ys ≡ size → ys ≡ lastOf (suc n) size (xs ++ ys)
-unfolding lastOf part
-last-more n size xs ys e l = rw (drop-at xs ys (n * size) e) (sym (take-all size ys (omega arith)))
+-- what a transfer says of its last sector
+pub last-is : (n size : ℕ) (xs last : List ℕ) → (n ≡ 0 → last ≡ []) → ((k : ℕ) → n ≡ suc k → last ≡ part (k * size) size xs) → last ≡ lastOf n size xs
+unfolding lastOf
+last-is zero size xs last none some = none refl
+last-is (suc n) size xs last none some = some n refl

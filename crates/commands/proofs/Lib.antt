@@ -4,14 +4,7 @@ pub mod Makings
 pub mod Formats
 pub mod Checkings
 pub mod Assigns
-pub mod Founds
-pub mod Runs
 pub mod Lasts
-pub mod Lengths
 pub mod Ends
-pub mod Readings
-pub mod ReadLoops
 pub mod ReadEnds
-pub mod WriteRuns
-pub mod Writings
 pub mod WriteEnds

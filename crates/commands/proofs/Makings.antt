@@ -61,5 +61,5 @@ pub fill-lent : (size : ℕ) (fill : List ℕ) → take (size - 0) fill ≡ part
 fill-lent size fill = part-lent 0 size size fill (omega arith)
 
 -- ---- a track's bound, by what a call gives
-pub track-in : (t u : Track) (n : ℕ) → t ≡ u → u .0 < n → t .0 < n
-track-in t u n e h = rw e h
+pub bound-of : (t u : Track) (n : ℕ) → t ≡ u → u .0 < n → t .0 < n
+bound-of t u n e h = rw e h

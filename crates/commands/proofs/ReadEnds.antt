@@ -1,6 +1,6 @@
 -- What Read leaves.
 use mathlib.Core.Path.{_≡_, refl, sym, ap, _∙_}
-use mathlib.Core.List.{List, []}
+use mathlib.Core.List.{List}
 use Prim.Native.Nat.{ℕ, _+_, _*_, _≤_, _<_}
 use native.Mathlib.Omega.{arith}
 use native.Mathlib.Nat.{mul-le-mul}
@@ -9,18 +9,19 @@ use Rattle.base.specs.Part.{splice}
 use Rattle.geometry.specs.declared.params.Params.{Params}
 use Rattle.geometry.specs.Params.{trackCount}
 use Rattle.track.specs.Image.{Fits}
+use Rattle.sectors.specs.Transfer.{begun, reading}
+use Rattle.sectors.specs.declared.transfer.Done.{Done}
+use Rattle.sectors.specs.Promises.{HasRead}
+use Rattle.sectors.proofs.Readings.{Handed, reading-handed}
 use Rattle.model.specs.declared.block.Block.{Block}
 use Rattle.model.specs.declared.record.Drive.{Drive}
 use Rattle.model.specs.Block.{countOf}
 use Rattle.model.specs.Record.{Effect}
-use Rattle.model.specs.Transfer.{begun, reading}
 use Rattle.model.specs.Commands.{read}
 use Rattle.control.specs.declared.record.Ending.{Ending}
 use Rattle.control.specs.Leaves.{recordOf, leftWith, Leaves, leftBy, leftNow}
-use Rattle.commands.specs.declared.transfer.Done.{Done}
-use Rattle.commands.specs.Transfers.{lastOf, finishOf, HasRead, ReadLeaves}
-use Rattle.commands.proofs.Lasts.{last-front}
-use Rattle.commands.proofs.Readings.{Handed, reading-handed}
+use Rattle.commands.specs.Transfers.{lastOf, finishOf}
+use Rattle.commands.proofs.Lasts.{last-front, last-is}
 use Rattle.commands.proofs.Ends.{outcome-is}
 
 pub bytes-most : (k size : ℕ) → k ≤ 256 → size ≤ 512 → k * size ≤ 131072
@@ -29,7 +30,7 @@ bytes-most k size h l = mul-le-mul {n₂ = 256} {m₂ = 512} h l
 -- ---- 08 Read
 module _ (b : Block) (p : Params) (area₀ area image : List ℕ) (n : ℕ) (done : Done) (fits : Fits p image)
     (h : b .address .0 + countOf b ≤ trackCount p * p .sectors) (en : n ≡ countOf b) (m : HasRead p n (b .address .0) image done area₀ area) where
-  has-read : Handed p n image (reading [] p n (b .address .0) (begun image))
+  has-read : Handed p n image (reading p n (b .address .0) (begun image))
   has-read = reading-handed p image fits n (b .address .0) (omega arith)
 
   pub read-most : done .sectors ≤ n
@@ -40,14 +41,14 @@ module _ (b : Block) (p : Params) (area₀ area image : List ℕ) (n : ℕ) (don
 
   pub read-leaves : (drives : List Drive) (buffer₀ buffer : List ℕ) (e : Ending) → buffer ≡ splice 0 (lastOf (done .sectors) (p .size) area) buffer₀
       → Leaves e drives (finishOf b (done .sectors) (done .code) (done .sectors * p .size))
-      → ReadLeaves b p (recordOf buffer₀ drives) area₀ image (leftNow (leftWith buffer e) area image)
+      → leftNow (leftWith buffer e) area image ≡ leftBy (read b p (recordOf buffer₀ drives) image) area₀
   unfolding read leftBy
   read-leaves drives buffer₀ buffer e eb leaves =
-      let x = reading [] p n (b .address .0) (begun image) in
+      let x = reading p n (b .address .0) (begun image) in
       let long : done .sectors * p .size ≡ length (x .handed) = rw (m .sectors) (sym (has-read .long)) in
       let last : lastOf (done .sectors) (p .size) area ≡ x .last =
-      rw (m .sectors, m .area) (last-front (x .done) (p .size) (x .handed) area₀ (omega (arith, has-read .long)) ∙ sym (has-read .last)) in
+      rw (m .sectors, m .area) (last-front (x .done) (p .size) (x .handed) area₀ (omega (arith, has-read .long)) ∙ sym (last-is _ _ _ _ (has-read .last-none) (has-read .last))) in
       let is = outcome-is b drives x _ _ _ _ buffer₀ buffer e eb leaves (m .sectors) (m .code) long last in
       let moved : leftNow (leftWith buffer e) area image ≡ leftNow (leftWith buffer e) (splice 0 (x .handed) area₀) (x .image) =
       rw (m .area, has-read .same) refl in
-      ([], rw (← en) (moved ∙ ap (λ (y : Effect). leftBy y area₀) is))
+      rw (← en) (moved ∙ ap (λ (y : Effect). leftBy y area₀) is)

@@ -21,7 +21,7 @@ use Rattle.model.specs.Checks.{sizeIn, bytesOf}
 use Rattle.model.specs.Record.{driveAt, settingIn}
 use Rattle.model.specs.Engine.{viewOf}
 use Rattle.model.proofs.Checked.{opcodeFor, row-of, Cleared, cleared, given-enough, area-enough, interleave-in, track-cleared, count-cleared}
-use Rattle.engine.specs.Runs.{Admitted}
+use Rattle.engine.specs.Steps.{Admitted}
 use Rattle.model.proofs.Current.{setting-known}
 
 row : (b : Block) (command : Command) → entryOf (b .opcode) .command ≡ command → entryOf (b .opcode) ≡ entryOf (opcodeFor command)

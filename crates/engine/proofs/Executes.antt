@@ -29,10 +29,10 @@ use Rattle.model.specs.Table.{entryOf}
 use Rattle.model.specs.Checks.{judged, View, presentWith, testsWith, tests, lengthsWith, judge}
 use Rattle.model.specs.Record.{driveIn, driveAt, settingIn, bareAnswer, bareOutcome, failedOutcome, Effect, refused, failed, unless}
 use Rattle.model.specs.Commands.{carryOut}
-use Rattle.model.specs.Engine.{viewOf, obey, imageOf, left, Result, execute, Executed}
+use Rattle.model.specs.Engine.{viewOf, obey, imageOf, left, Result, onImages, execute}
 use Rattle.control.specs.Limits.{Legal}
 use Rattle.control.specs.Leaves.{Left, leftNow, leftBy}
-use Rattle.engine.specs.Runs.{Admitted, Carried, Obeyed, OnImages, resultNow}
+use Rattle.engine.specs.Steps.{Admitted, resultNow}
 use Rattle.model.proofs.Judged.{fault-in, fault-none}
 
 -- ---- the row of a command
@@ -41,8 +41,8 @@ command-of opcode e is = rw is
 
 -- the same setting by another name
 pub carried-as : (b : Block) (s s₁ : Setting) (given : List ℕ) (c : Controller) (area image : List ℕ) (k : Command) (outcome : Outcome)
-    (after made : List ℕ) → s ≡ s₁ → Carried b s₁ given c area image k (leftNow outcome after made)
-    → Carried b s given c area image k (leftNow outcome after made)
+    (after made : List ℕ) → s ≡ s₁ → leftNow outcome after made ≡ leftBy (carryOut b s₁ given c image k) area
+    → leftNow outcome after made ≡ leftBy (carryOut b s given c image k) area
 carried-as b s s₁ given c area image k outcome after made es h = rw es h
 
 -- ---- a drive's setting is legal
@@ -113,33 +113,32 @@ admitted b c image given area verdict hd ha is e = record { drive = hd; address 
 -- ---- what is left by the verdict
 module _ (b : Block) (given : List ℕ) (c : Controller) (area image : List ℕ) (verdict : Verdict)
     (is : verdict ≡ judge b (viewOf (driveAt c (b .drive)) (length image)) (length given) (length area)) where
-  obeyed-by : (choices : List ℕ)
-      → obey choices b given (length area) c image
+  obeyed-by : obey b given (length area) c image
       ≡ unless verdict b c image
-      (carryOut choices b (settingIn (driveAt c (b .drive)) (length image)) given c image (entryOf (b .opcode) .command))
+      (carryOut b (settingIn (driveAt c (b .drive)) (length image)) given c image (entryOf (b .opcode) .command))
   unfolding obey
-  obeyed-by choices = rw is
+  obeyed-by = rw is
 
-  left-by : (choices : List ℕ) (l : Left)
+  left-by : (l : Left)
       → l ≡ leftBy (unless verdict b c image
-      (carryOut choices b (settingIn (driveAt c (b .drive)) (length image)) given c image (entryOf (b .opcode) .command))) area
-      → Obeyed b given c area image l
-  left-by choices l h = (choices, h ∙ ap (λ (f : Effect). leftBy f area) (sym (obeyed-by choices)))
+      (carryOut b (settingIn (driveAt c (b .drive)) (length image)) given c image (entryOf (b .opcode) .command))) area
+      → l ≡ leftBy (obey b given (length area) c image) area
+  left-by l h = h ∙ ap (λ (f : Effect). leftBy f area) (sym obeyed-by)
 
   pub obey-refused : (outcome : Outcome) (number : ℕ) → verdict ≡ Refused number → outcome ≡ bareOutcome number c
-      → Obeyed b given c area image (leftNow outcome area image)
+      → leftNow outcome area image ≡ leftBy (obey b given (length area) c image) area
   unfolding unless refused leftBy
-  obey-refused outcome number e eo = left-by [] _ (rw (e, eo, splice-none area))
+  obey-refused outcome number e eo = left-by _ (rw (e, eo, splice-none area))
 
   pub obey-failed : (outcome : Outcome) (code : ℕ) (at : Lba) → verdict ≡ Faulty code at → outcome ≡ failedOutcome (b .drive) code at 0 0 c
-      → Obeyed b given c area image (leftNow outcome area image)
+      → leftNow outcome area image ≡ leftBy (obey b given (length area) c image) area
   unfolding unless failed leftBy
-  obey-failed outcome code at e eo = left-by [] _ (rw (e, eo, splice-none area))
+  obey-failed outcome code at e eo = left-by _ (rw (e, eo, splice-none area))
 
   pub obey-carried : (s : Setting) (command : Command) (l : Left) → verdict ≡ Passed → settingIn (driveIn (c .drives) (b .drive)) (length image) ≡ s
-      → entryOf (b .opcode) .command ≡ command → Carried b s given c area image command l → Obeyed b given c area image l
+      → entryOf (b .opcode) .command ≡ command → l ≡ leftBy (carryOut b s given c image command) area → l ≡ leftBy (obey b given (length area) c image) area
   unfolding unless driveAt
-  obey-carried s command l e es ek h = left-by (h .0) l (rw (e, es, ek) (h .1))
+  obey-carried s command l e es ek h = left-by l (rw (e, es, ek) h)
 
 -- ---- the fields of a block
 pub block-fields : (bytes : List ℕ) (b : Block) → b ≡ blockOf bytes → ((i : ℕ) → byte bytes i < 256) → (b .drive < 4) × (b .address .0 < 2097152)
@@ -158,25 +157,25 @@ module _ (b : Block) (given : List ℕ) (c : Controller) (area image0 image1 : L
   -- from what the command leaves on the image of its drive
   on-own : (own left0 left1 : List ℕ) → own ≡ imageOf (b .drive) image0 image1
       → left0 ≡ pick (eqb (b .drive) 0) image image0 → left1 ≡ pick (eqb (b .drive) 1) image image1
-      → Obeyed b given c area own (leftNow outcome after image) → OnImages b given c area image0 image1 (resultNow outcome after left0 left1)
+      → leftNow outcome after image ≡ leftBy (obey b given (length area) c own) area → resultNow outcome after left0 left1 ≡ onImages b given c area image0 image1
   on-own own left0 left1 e e₀ e₁ h =
-      let effect = obey (h .0) b given (length area) c (imageOf (b .drive) image0 image1) in
-      let is : leftNow outcome after image ≡ leftBy effect area = rw (← e) (h .1) in
-      (h .0, rw (e₀, e₁) (left-put (b .drive) effect area image0 image1 _ is))
+      let effect = obey b given (length area) c (imageOf (b .drive) image0 image1) in
+      let is : leftNow outcome after image ≡ leftBy effect area = rw (← e) h in
+      rw (e₀, e₁) (left-put (b .drive) effect area image0 image1 _ is)
 
-  pub on-first : b .drive ≡ 0 → Obeyed b given c area image0 (leftNow outcome after image)
-      → OnImages b given c area image0 image1 (resultNow outcome after image image1)
+  pub on-first : b .drive ≡ 0 → leftNow outcome after image ≡ leftBy (obey b given (length area) c image0) area
+      → resultNow outcome after image image1 ≡ onImages b given c area image0 image1
   unfolding imageOf pick
   on-first h = on-own image0 image image1 (rw h) (rw h) (rw h)
 
-  pub on-second : b .drive ≡ 1 → Obeyed b given c area image1 (leftNow outcome after image)
-      → OnImages b given c area image0 image1 (resultNow outcome after image0 image)
+  pub on-second : b .drive ≡ 1 → leftNow outcome after image ≡ leftBy (obey b given (length area) c image1) area
+      → resultNow outcome after image0 image ≡ onImages b given c area image0 image1
   unfolding imageOf pick
   on-second h = on-own image1 image0 image (rw h) (rw h) (rw h)
 
   -- what the command does to an image of no bytes is dropped
-  pub on-none : (b .drive ≡ 0 → ⊥) → (b .drive ≡ 1 → ⊥) → length image ≡ 0 → Obeyed b given c area [] (leftNow outcome after image)
-      → OnImages b given c area image0 image1 (resultNow outcome after (image ++ image0) image1)
+  pub on-none : (b .drive ≡ 0 → ⊥) → (b .drive ≡ 1 → ⊥) → length image ≡ 0 → leftNow outcome after image ≡ leftBy (obey b given (length area) c []) area
+      → resultNow outcome after (image ++ image0) image1 ≡ onImages b given c area image0 image1
   unfolding imageOf
   on-none h₀ h₁ none =
       let n₀ = ne-eqb (b .drive) 0 h₀ in
@@ -192,11 +191,11 @@ bare-is c number answer e = rw e refl
 
 module _ (c : Controller) (block given area image0 image1 : List ℕ) where
   pub execute-refused : (outcome : Outcome) → (length block ≡ 6 → ⊥) → outcome ≡ bareOutcome 1 c
-      → Executed c block given area image0 image1 (resultNow outcome area image0 image1)
-  unfolding Executed execute
-  execute-refused outcome h e = ([], rw (pick-false _ _ _ (ne-eqb _ _ h), e))
+      → resultNow outcome area image0 image1 ≡ execute c block given area image0 image1
+  unfolding execute
+  execute-refused outcome h e = rw (pick-false _ _ _ (ne-eqb _ _ h), e)
 
-  pub execute-six : length block ≡ 6 → (b : Block) → b ≡ blockOf block → (result : Result) → OnImages b given c area image0 image1 result
-      → Executed c block given area image0 image1 result
-  unfolding Executed execute
-  execute-six six b eb result h = (h .0, rw (pick-true _ _ _ (eq-eqb _ _ six), ← eb) (h .1))
+  pub execute-six : length block ≡ 6 → (b : Block) → b ≡ blockOf block → (result : Result) → result ≡ onImages b given c area image0 image1
+      → result ≡ execute c block given area image0 image1
+  unfolding execute
+  execute-six six b eb result h = rw (pick-true _ _ _ (eq-eqb _ _ six), ← eb) h

@@ -34,9 +34,10 @@ ghost use lib.ListN.{length};
 ghost use Rattle.geometry.specs.declared.config.Setting.the-variants.{Valid, Invalid};
 ghost use Rattle.model.specs.Table.{entryOf};
 ghost use Rattle.model.specs.Record.{driveIn, settingIn};
-ghost use Rattle.model.specs.Engine.{Executed};
-ghost use Rattle.control.specs.Leaves.{recordOf, leftWith, leftNow};
-ghost use Rattle.engine.specs.Runs.{Admitted, Carried, Obeyed, OnImages, resultNow};
+ghost use Rattle.model.specs.Commands.{carryOut};
+ghost use Rattle.model.specs.Engine.{obey, onImages, execute};
+ghost use Rattle.control.specs.Leaves.{recordOf, leftWith, leftBy, leftNow};
+ghost use Rattle.engine.specs.Steps.{Admitted, resultNow};
 
 // A command whose checks have passed, up to its own, on a drive with parameters.
 fn with_parameters(
@@ -50,7 +51,7 @@ fn with_parameters(
     command: Command,
 ) -> Ending
     requires { ⌜ Admitted (recordOf (now buffer) drives) b (length (now given)) (length (now area)) (length (now image)) × (entryOf (b .opcode) .command ≡ command) × (settingIn (driveIn drives (b .drive)) (length (now image)) ≡ Valid p) × (length (now buffer) ≡ 512) ⌝ }
-    ensures { λ r. ⌜ Carried b (Valid p) (now (given .entry)) (recordOf (now (buffer .entry)) drives) (now (area .entry)) (now (image .entry)) command (leftNow (leftWith (now (buffer .exit)) r) (now (area .exit)) (now (image .exit))) ⌝ }
+    ensures { λ r. ⌜ leftNow (leftWith (now (buffer .exit)) r) (now (area .exit)) (now (image .exit)) ≡ leftBy (carryOut b (Valid p) (now (given .entry)) (recordOf (now (buffer .entry)) drives) (now (image .entry)) command) (now (area .entry)) ⌝ }
 {
     let drive = b.drive;
     match command {
@@ -83,7 +84,7 @@ fn without_parameters(
     command: Command,
 ) -> Ending
     requires { ⌜ Admitted (recordOf (now buffer) drives) b (length (now given)) (length (now area)) (length (now image)) × (entryOf (b .opcode) .command ≡ command) × (length (now buffer) ≡ 512) ⌝ }
-    ensures { λ r. ⌜ Carried b Invalid (now (given .entry)) (recordOf (now (buffer .entry)) drives) (now (area .entry)) (now (image .entry)) command (leftNow (leftWith (now (buffer .exit)) r) (now (area .exit)) (now (image .entry))) ⌝ }
+    ensures { λ r. ⌜ leftNow (leftWith (now (buffer .exit)) r) (now (area .exit)) (now (image .entry)) ≡ leftBy (carryOut b Invalid (now (given .entry)) (recordOf (now (buffer .entry)) drives) (now (image .entry)) command) (now (area .entry)) ⌝ }
 {
     let drive = b.drive;
     let at = b.address;
@@ -117,7 +118,7 @@ fn carry_out(
     command: Command,
 ) -> Ending
     requires { ⌜ Admitted (recordOf (now buffer) drives) b (length (now given)) (length (now area)) (length (now image)) × (entryOf (b .opcode) .command ≡ command) × (settingIn (driveIn drives (b .drive)) (length (now image)) ≡ setting) × (length (now buffer) ≡ 512) ⌝ }
-    ensures { λ r. ⌜ Carried b setting (now (given .entry)) (recordOf (now (buffer .entry)) drives) (now (area .entry)) (now (image .entry)) command (leftNow (leftWith (now (buffer .exit)) r) (now (area .exit)) (now (image .exit))) ⌝ }
+    ensures { λ r. ⌜ leftNow (leftWith (now (buffer .exit)) r) (now (area .exit)) (now (image .exit)) ≡ leftBy (carryOut b setting (now (given .entry)) (recordOf (now (buffer .entry)) drives) (now (image .entry)) command) (now (area .entry)) ⌝ }
 {
     match setting {
         Setting::Valid(p) => with_parameters(drives, b, p, buffer, given, area, image, command),
@@ -135,7 +136,7 @@ fn obey(
     image: &mut [u8],
 ) -> Ending
     requires { ⌜ (b .drive < 4) × (b .address .0 < 2097152) × (length (now buffer) ≡ 512) ⌝ }
-    ensures { λ r. ⌜ Obeyed b (now (given .entry)) (recordOf (now (buffer .entry)) drives) (now (area .entry)) (now (image .entry)) (leftNow (leftWith (now (buffer .exit)) r) (now (area .exit)) (now (image .exit))) ⌝ }
+    ensures { λ r. ⌜ leftNow (leftWith (now (buffer .exit)) r) (now (area .exit)) (now (image .exit)) ≡ leftBy (obey b (now (given .entry)) (length (now (area .entry))) (recordOf (now (buffer .entry)) drives) (now (image .entry))) (now (area .entry)) ⌝ }
 {
     let drive = b.drive;
     let row = entry_of(b.opcode);
@@ -169,7 +170,7 @@ fn on_images(
     image1: &mut [u8],
 ) -> Ending
     requires { ⌜ (b .drive < 4) × (b .address .0 < 2097152) × (length (now buffer) ≡ 512) ⌝ }
-    ensures { λ r. ⌜ OnImages b (now (given .entry)) (recordOf (now (buffer .entry)) drives) (now (area .entry)) (now (image0 .entry)) (now (image1 .entry)) (resultNow (leftWith (now (buffer .exit)) r) (now (area .exit)) (now (image0 .exit)) (now (image1 .exit))) ⌝ }
+    ensures { λ r. ⌜ resultNow (leftWith (now (buffer .exit)) r) (now (area .exit)) (now (image0 .exit)) (now (image1 .exit)) ≡ onImages b (now (given .entry)) (recordOf (now (buffer .entry)) drives) (now (area .entry)) (now (image0 .entry)) (now (image1 .entry)) ⌝ }
 {
     if b.drive == 0 {
         return obey(drives, b, buffer, given, area, image0);
@@ -190,7 +191,7 @@ pub fn execute(
     image0: &mut [u8],
     image1: &mut [u8],
 ) -> Outcome
-    ensures { λ r. ⌜ Executed c (now (block .entry)) (now (given .entry)) (now (area .entry)) (now (image0 .entry)) (now (image1 .entry)) (resultNow r (now (area .exit)) (now (image0 .exit)) (now (image1 .exit))) ⌝ }
+    ensures { λ r. ⌜ resultNow r (now (area .exit)) (now (image0 .exit)) (now (image1 .exit)) ≡ execute c (now (block .entry)) (now (given .entry)) (now (area .entry)) (now (image0 .entry)) (now (image1 .entry)) ⌝ }
 {
     if block.len() != 6 {
         return Outcome {

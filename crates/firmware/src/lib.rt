@@ -6,8 +6,8 @@ use engine::run::execute;
 use model::record::Answer;
 use model::record::Controller;
 ghost use mathlib.Core.Path.{_≡_};
-ghost use Rattle.model.specs.Engine.{Executed, fresh, resetOf};
-ghost use Rattle.engine.specs.Runs.{resultNow};
+ghost use Rattle.model.specs.Engine.{execute, fresh, resetOf};
+ghost use Rattle.engine.specs.Steps.{resultNow};
 
 // A command: any record, block, given data, data area and images.
 #[no_mangle]
@@ -19,8 +19,8 @@ pub extern "C" fn lanthewg_execute(
     image0: &mut [u8],
     image1: &mut [u8],
 ) -> Answer
-    ensures { λ r. ⌜ Executed (now (c .entry)) (now (block .entry)) (now (given .entry)) (now (area .entry)) (now (image0 .entry)) (now (image1 .entry))
-        (resultNow (record { controller = now (c .exit); answer = r }) (now (area .exit)) (now (image0 .exit)) (now (image1 .exit))) ⌝ }
+    ensures { λ r. ⌜ resultNow (record { controller = now (c .exit); answer = r }) (now (area .exit)) (now (image0 .exit)) (now (image1 .exit))
+        ≡ execute (now (c .entry)) (now (block .entry)) (now (given .entry)) (now (area .entry)) (now (image0 .entry)) (now (image1 .entry)) ⌝ }
 {
     let o = execute(*c, block, given, area, image0, image1);
     *c = o.controller;

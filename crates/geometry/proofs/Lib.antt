@@ -1,3 +1,4 @@
 pub mod Sizes
 pub mod Settings
 pub mod Labels
+pub mod Addresses

@@ -17,9 +17,9 @@ use Rattle.hex.specs.declared.line.Line.{Line}
 use Rattle.hex.specs.Line.{lineNow, wholeOf}
 use Rattle.model.specs.declared.record.Controller.{Controller}
 use Rattle.model.specs.declared.record.Outcome.{Outcome}
-use Rattle.model.specs.Engine.{Executed, resetOf}
-use Rattle.engine.specs.Runs.{resultNow}
-use Rattle.lines.specs.Said.{answerText, badText, Said, saidNow, resultSaid, Framed, resetSaid, isReset, Answered}
+use Rattle.model.specs.Engine.{execute, resetOf}
+use Rattle.engine.specs.Steps.{resultNow}
+use Rattle.lines.specs.Said.{answerText, badText, Said, saidNow, resultSaid, frameSaid, resetSaid, isReset, lineSaid}
 use Rattle.lines.specs.declared.Told.{Told}
 use Rattle.lines.proofs.Texts.{told-text}
 
@@ -61,11 +61,11 @@ drop-most n xs = take-all (length xs - min n (length xs)) (drop (min n (length x
 pub frame-answered : (c : Controller) (frame area image0 image1 area′ image0′ image1′ text after : List ℕ) (outcome : Outcome) (k m n : ℕ)
     → 7 + 2 * length area ≤ length text → length area′ ≡ length area
     → k ≡ min 6 (length frame) → m ≡ min (outcome .answer .bytes) (length area′)
-    → Executed c (take (k - 0) frame) (take (length frame - k) (drop k frame)) area image0 image1 (resultNow outcome area′ image0′ image1′)
+    → resultNow outcome area′ image0′ image1′ ≡ execute c (take (k - 0) frame) (take (length frame - k) (drop k frame)) area image0 image1
     → (n ≡ 7 + 2 * length (take (m - 0) area′)) × (after ≡ splice 0 (answerText (outcome .answer) (take (m - 0) area′)) text)
     → (n ≤ length after)
-    × Framed c frame area image0 image1 (saidNow (record { controller = outcome .controller; length = n }) after image0′ image1′)
-unfolding Framed resultSaid
+    × (saidNow (record { controller = outcome .controller; length = n }) after image0′ image1′ ≡ frameSaid c frame area image0 image1)
+unfolding frameSaid resultSaid
 frame-answered c frame area image0 image1 area′ image0′ image1′ text after outcome k m n room same ek em done told =
     let handed : List ℕ = take (m - 0) area′ in
     let l : length handed ≤ length area = rw (length-take (m - 0) area′) (omega arith) in
@@ -73,21 +73,22 @@ frame-answered c frame area image0 image1 area′ image0′ image1′ text after
     let all : handed ≡ take (outcome .answer .bytes) area′ = rw (sub-zero m, em) (take-most (outcome .answer .bytes) area′) in
     let block : take (k - 0) frame ≡ take 6 frame = rw (sub-zero k, ek) (take-most 6 frame) in
     let rest : take (length frame - k) (drop k frame) ≡ drop 6 frame = rw ek (drop-most 6 frame) in
-    (is .0, (resultNow outcome area′ image0′ image1′, (rw (← block, ← rest) done), rw (is .1, all)))
+    let result : resultNow outcome area′ image0′ image1′ ≡ execute c (take 6 frame) (drop 6 frame) area image0 image1 = rw (← block, ← rest) done in
+    (is .0, rw (← result, is .1, all))
 
 -- ---- the answer to a line
 module _ (c : Controller) (line : Line) (bytes area image0 image1 : List ℕ) where
   module _ (told : Told) (after : List ℕ) (is : (told .controller ≡ c) × (take (told .length) after ≡ badText)) where
     spoilt-answered : wholeOf (lineNow line bytes) ≡ none
-        → Answered c (wholeOf (lineNow line bytes)) area image0 image1 (saidNow told after image0 image1)
-    unfolding Answered
+        → saidNow told after image0 image1 ≡ lineSaid c (wholeOf (lineNow line bytes)) area image0 image1
+    unfolding lineSaid
     spoilt-answered e = rw (e, is .0, is .1)
 
-    pub bad-answered : line .bad ≡ true → Answered c (wholeOf (lineNow line bytes)) area image0 image1 (saidNow told after image0 image1)
+    pub bad-answered : line .bad ≡ true → saidNow told after image0 image1 ≡ lineSaid c (wholeOf (lineNow line bytes)) area image0 image1
     unfolding wholeOf
     bad-answered e = spoilt-answered (pick-true _ _ _ (rw e))
 
-    pub half-answered : line .half ≡ true → Answered c (wholeOf (lineNow line bytes)) area image0 image1 (saidNow told after image0 image1)
+    pub half-answered : line .half ≡ true → saidNow told after image0 image1 ≡ lineSaid c (wholeOf (lineNow line bytes)) area image0 image1
     unfolding wholeOf
     half-answered e = spoilt-answered (pick-true _ _ _ (rw (e, or-true (line .bad))))
 
@@ -97,11 +98,11 @@ module _ (c : Controller) (line : Line) (bytes area image0 image1 : List ℕ) wh
     unfolding wholeOf
     whole-line = rw (sub-zero (line .count)) (pick-false _ _ _ (rw (bad, half)))
 
-    pub line-reset : reset ≡ true → said ≡ resetSaid image0 image1 → Answered c (wholeOf (lineNow line bytes)) area image0 image1 said
-    unfolding Answered
+    pub line-reset : reset ≡ true → said ≡ resetSaid image0 image1 → said ≡ lineSaid c (wholeOf (lineNow line bytes)) area image0 image1
+    unfolding lineSaid
     line-reset e h = rw (whole-line, pick-true _ _ _ (sym is ∙ e)) h
 
-    pub line-frame : reset ≡ false → Framed c (take (line .count - 0) bytes) area image0 image1 said
-        → Answered c (wholeOf (lineNow line bytes)) area image0 image1 said
-    unfolding Answered
+    pub line-frame : reset ≡ false → said ≡ frameSaid c (take (line .count - 0) bytes) area image0 image1
+        → said ≡ lineSaid c (wholeOf (lineNow line bytes)) area image0 image1
+    unfolding lineSaid
     line-frame e h = rw (whole-line, pick-false _ _ _ (sym is ∙ e)) h

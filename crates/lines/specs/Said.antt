@@ -1,6 +1,5 @@
 -- Document 01, the program frames: what a line is answered by, and what it leaves.
 use Prim.Native.Nat.{ℕ}
-use mathlib.Core.Path.{_≡_}
 use mathlib.Core.Bool.{Bool, _&&_}
 use mathlib.Core.Option.{Option, none, some}
 use mathlib.Core.List.{List, [], _∷_, _++_}
@@ -10,7 +9,7 @@ use Rattle.base.specs.Pick.{pick}
 use Rattle.hex.specs.Hex.{encoded}
 use Rattle.model.specs.declared.record.Answer.{Answer}
 use Rattle.model.specs.declared.record.Controller.{Controller}
-use Rattle.model.specs.Engine.{Result, Executed, resetOf}
+use Rattle.model.specs.Engine.{Result, execute, resetOf}
 use Rattle.lines.specs.declared.Told.{Told}
 
 -- Number, status, message, data; then a line feed.
@@ -41,9 +40,8 @@ resultSaid result = record {
 }
 
 -- The first six bytes are the block, the rest data.
-unfoldable pub Framed : Controller → (frame area image0 image1 : List ℕ) → Said → Type 0
-Framed c frame area image0 image1 said =
-    (result : Result) × Executed c (take 6 frame) (drop 6 frame) area image0 image1 result × (said ≡ resultSaid result)
+unfoldable pub frameSaid : Controller → (frame area image0 image1 : List ℕ) → Said
+frameSaid c frame area image0 image1 = resultSaid (execute c (take 6 frame) (drop 6 frame) area image0 image1)
 
 unfoldable pub resetSaid : (image0 image1 : List ℕ) → Said
 resetSaid image0 image1 = record {
@@ -58,7 +56,6 @@ unfoldable pub isReset : (frame : List ℕ) → Bool
 isReset frame = eqb (length frame) 1 && eqb (getD frame 0 0) 0xFF
 
 -- A line's bytes, or none where it is bad hex or has too many: then FF, and nothing changes.
-unfoldable pub Answered : Controller → Option (List ℕ) → (area image0 image1 : List ℕ) → Said → Type 0
-Answered c none area image0 image1 said = said ≡ record { controller = c; text = badText; image0 = image0; image1 = image1 }
-Answered c (some frame) area image0 image1 said =
-    pick (isReset frame) (said ≡ resetSaid image0 image1) (Framed c frame area image0 image1 said)
+unfoldable pub lineSaid : Controller → Option (List ℕ) → (area image0 image1 : List ℕ) → Said
+lineSaid c none area image0 image1 = record { controller = c; text = badText; image0 = image0; image1 = image1 }
+lineSaid c (some frame) area image0 image1 = pick (isReset frame) (resetSaid image0 image1) (frameSaid c frame area image0 image1)

@@ -10,7 +10,7 @@ ghost use Prim.Native.Nat.{_+_, _*_, _≤_, min};
 ghost use lib.ListN.{length, take};
 ghost use Rattle.base.specs.Part.{splice};
 ghost use Rattle.hex.specs.Line.{lineNow, wholeOf};
-ghost use Rattle.lines.specs.Said.{answerText, badText, resetSaid, isReset, saidNow, Framed, Answered};
+ghost use Rattle.lines.specs.Said.{answerText, badText, resetSaid, isReset, saidNow, frameSaid, lineSaid};
 
 const LINE_FEED: u8 = 0x0A;
 
@@ -63,7 +63,7 @@ fn answer_frame(
 ) -> Told
     requires { ⌜ 7 + 2 * length (now area) ≤ length (now text) ⌝ }
     ensures { λ r. ⌜ r .length ≤ length (now (text .exit)) ⌝ }
-    ensures { λ r. ⌜ Framed c (now (frame .entry)) (now (area .entry)) (now (image0 .entry)) (now (image1 .entry)) (saidNow r (now (text .exit)) (now (image0 .exit)) (now (image1 .exit))) ⌝ }
+    ensures { λ r. ⌜ saidNow r (now (text .exit)) (now (image0 .exit)) (now (image1 .exit)) ≡ frameSaid c (now (frame .entry)) (now (area .entry)) (now (image0 .entry)) (now (image1 .entry)) ⌝ }
 {
     let end = frame.len();
     let n = least(BLOCK_LENGTH, end);
@@ -119,7 +119,7 @@ pub fn answer_line(
 ) -> Told
     requires { ⌜ (7 + 2 * length (now area) ≤ length (now text)) × (line .count ≤ length (now bytes)) ⌝ }
     ensures { λ r. ⌜ r .length ≤ length (now (text .exit)) ⌝ }
-    ensures { λ r. ⌜ Answered c (wholeOf (lineNow line (now (bytes .entry)))) (now (area .entry)) (now (image0 .entry)) (now (image1 .entry)) (saidNow r (now (text .exit)) (now (image0 .exit)) (now (image1 .exit))) ⌝ }
+    ensures { λ r. ⌜ saidNow r (now (text .exit)) (now (image0 .exit)) (now (image1 .exit)) ≡ lineSaid c (wholeOf (lineNow line (now (bytes .entry)))) (now (area .entry)) (now (image0 .entry)) (now (image1 .entry)) ⌝ }
 {
     let count = line.count;
     if line.bad {

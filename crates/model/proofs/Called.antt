@@ -1,6 +1,6 @@
 -- One call: it answers as the machine does, and engine and machine agree after it.
 use Prim.Native.Nat.{ℕ, _<_}
-use mathlib.Core.Path.{_≡_, refl, sym, subst, _∙_}
+use mathlib.Core.Path.{_≡_, refl, sym, _∙_}
 use mathlib.Core.Bool.{Bool, true, false}
 use mathlib.Core.List.{List, []}
 use native.Mathlib.Decide.{ℕ-discrete}
@@ -13,13 +13,12 @@ use Rattle.base.proofs.Parts.{length-none}
 use Rattle.base.specs.Pick.{pick}
 use Rattle.model.specs.declared.block.Block.{Block}
 use Rattle.model.specs.declared.record.Controller.{Controller}
-use Rattle.model.specs.declared.record.Outcome.{Outcome}
 use Rattle.model.specs.Block.{blockOf}
-use Rattle.model.specs.Calls.{Reply, reset, command, bare}
+use Rattle.model.specs.Calls.{Reply, command, bare}
 use Rattle.model.specs.Record.{bareOutcome, Effect}
-use Rattle.model.specs.Engine.{Result, imageOf, left, execute, Executed, resetOf}
+use Rattle.model.specs.Engine.{Result, imageOf, left, execute, resetOf}
 use Rattle.model.specs.Machine.{Machine, changed, step}
-use Rattle.model.specs.Claim.{State, Order, fed, replyOf, Calls, by-reset, by-execute}
+use Rattle.model.specs.Claim.{State, Order, Reset, Command, fed, replyOf, replied, called}
 use Rattle.model.proofs.Agrees.{Agrees, Follows}
 use Rattle.model.proofs.Ends.{changed-same, changed-other, agree-images}
 use Rattle.model.proofs.Obeyed.{obey-follows}
@@ -58,13 +57,9 @@ module _ (drive : ℕ) (after image0 image1 : List ℕ) (len : length after ≡ 
 
 -- ---- a call
 -- engine and machine reply alike, and agree
-pub record Answered (reply : Reply) (s : State) (x : Reply × Machine) : Type 0 where
-  pub same : reply ≡ x .0
-  pub agree : Agrees (s .controller) (λ d. imageOf d (s .image0) (s .image1)) (x .1)
-
--- the same of all that a command leaves
-abbrev Executes : Result → Reply × Machine → Type 0
-Executes r x = Answered (replyOf (r .outcome .answer) (r .area)) (record { controller = r .outcome .controller; image0 = r .image0; image1 = r .image1 }) x
+pub record Answered (y : Reply × State) (x : Reply × Machine) : Type 0 where
+  pub same : y .0 ≡ x .0
+  pub agree : Agrees (y .1 .controller) (λ d. imageOf d (y .1 .image0) (y .1 .image1)) (x .1)
 
 pub drive-below : (block : List ℕ) → blockOf block .drive < 4
 unfolding blockOf
@@ -72,37 +67,29 @@ drive-below block = mod-lt _ (omega arith)
 
 module _ (c : Controller) (area image0 image1 : List ℕ) (m : Machine) where
   left-executes : (b : Block) (e : Effect) (x : Reply × Machine) → Follows (λ d. imageOf d image0 image1) b area e x
-      → Executes (left (b .drive) e area image0 image1) x
-  unfolding left
+      → Answered (replied (left (b .drive) e area image0 image1)) x
+  unfolding left replied
   left-executes b e x follows = record {
     same = follows .reply;
     agree = agree-images (e .outcome .controller) _ _ (x .1) (left-images (b .drive) (e .image) image0 image1 (follows .len)) (follows .agree);
   }
 
   -- by whether the block is six bytes
-  six-executes : Agrees c (λ d. imageOf d image0 image1) m → (six : Bool) (r : Result) (x : Reply × Machine) → Executes r x
-      → Executes (pick six r (record { outcome = bareOutcome 1 c; area = area; image0 = image0; image1 = image1 })) (pick six x (bare 1, m))
-  unfolding pick bareOutcome replyOf
+  six-executes : Agrees c (λ d. imageOf d image0 image1) m → (six : Bool) (r : Result) (x : Reply × Machine) → Answered (replied r) x
+      → Answered (replied (pick six r (record { outcome = bareOutcome 1 c; area = area; image0 = image0; image1 = image1 }))) (pick six x (bare 1, m))
+  unfolding pick bareOutcome replyOf replied
   six-executes agree true r x good = good
   six-executes agree false r x good = record { same = refl; agree = agree }
 
-  execute-executes : Agrees c (λ d. imageOf d image0 image1) m → (choices block given : List ℕ)
-      → Executes (execute choices c block given area image0 image1) (step m (command block given (length area)))
+  execute-executes : Agrees c (λ d. imageOf d image0 image1) m → (block given : List ℕ)
+      → Answered (replied (execute c block given area image0 image1)) (step m (command block given (length area)))
   unfolding execute step
-  execute-executes agree choices block given =
+  execute-executes agree block given =
       six-executes agree (eqb (length block) 6) _ _
-      (left-executes (blockOf block) _ _ (obey-follows choices (blockOf block) given area c (λ d. imageOf d image0 image1) m (drive-below block) agree))
+      (left-executes (blockOf block) _ _ (obey-follows (blockOf block) given area c (λ d. imageOf d image0 image1) m (drive-below block) agree))
 
-reset-answered : (c : Controller) (image0 image1 : List ℕ) (m : Machine) → Agrees c (λ d. imageOf d image0 image1) m → (outcome : Outcome)
-    → outcome ≡ resetOf image0 image1
-    → Answered (replyOf (outcome .answer) []) (record { controller = outcome .controller; image0 = image0; image1 = image1 }) (step m reset)
-unfolding resetOf bareOutcome replyOf step
-reset-answered c image0 image1 m agree outcome is = rw is (record { same = refl; agree = agree-reset image0 image1 m c agree })
-
-pub call-answered : {s t : State} {order : Order} {reply : Reply} → Calls s order reply t → (m : Machine)
-    → Agrees (s .controller) (λ d. imageOf d (s .image0) (s .image1)) m → Answered reply t (step m (fed order))
-unfolding fed Executed
-call-answered (by-reset {s} outcome is) m agree = reset-answered (s .controller) (s .image0) (s .image1) m agree outcome is
-call-answered (by-execute {s} {block} {given} {area} result executed) m agree =
-    subst (λ (r : Result). Executes r (step m (command block given (length area)))) (sym (executed .1))
-    (execute-executes (s .controller) area (s .image0) (s .image1) m agree (executed .0) block given)
+pub call-answered : (s : State) (order : Order) (m : Machine) → Agrees (s .controller) (λ d. imageOf d (s .image0) (s .image1)) m
+    → Answered (called s order) (step m (fed order))
+unfolding called replied fed resetOf bareOutcome replyOf step
+call-answered s Reset m agree = record { same = refl; agree = agree-reset (s .image0) (s .image1) m (s .controller) agree }
+call-answered s (Command block given area) m agree = execute-executes (s .controller) area (s .image0) (s .image1) m agree block given

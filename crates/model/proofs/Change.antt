@@ -13,6 +13,7 @@ use Rattle.geometry.specs.declared.params.Lba.{Lba}
 use Rattle.geometry.specs.declared.params.Track.{Track}
 use Rattle.geometry.specs.declared.params.Params.{Params}
 use Rattle.geometry.specs.Params.{Within, trackCount, trackOf, sectorOf}
+use Rattle.geometry.proofs.Addresses.{same-track, track-in, sector-in}
 use Rattle.interleave.specs.Layout.{layoutOf}
 use Rattle.interleave.proofs.Slots.{slotOf, slot-lt}
 use Rattle.track.specs.Image.{trackBytes, slotId, slotData}
@@ -21,7 +22,6 @@ use Rattle.track.proofs.Formed.{Formed, format-forms, format-fills}
 use Rattle.model.specs.Machine.{Kind, stateless, sound, bad, moved, taken, Disk, isMoved, isTaken}
 use Rattle.model.specs.Claim.{isHeld}
 use Rattle.model.proofs.Mirrors.{stateFor, homeOf, Paired, Mirrors}
-use Rattle.model.proofs.Addresses.{same-track, track-in, sector-in}
 
 apart : _≡_ {A = ℕ} 0 1 → ⊥
 apart e = omega arith

@@ -16,6 +16,7 @@ use Rattle.geometry.specs.declared.config.Setting.{Setting}
 use Rattle.geometry.specs.declared.config.Setting.the-variants.{Valid}
 use Rattle.geometry.specs.Params.{Within, trackCount, trackOf, lastAddress}
 use Rattle.geometry.proofs.Sizes.{sectors-some}
+use Rattle.geometry.proofs.Addresses.{track-in}
 use Rattle.model.specs.declared.block.Block.{Block}
 use Rattle.model.specs.declared.table.Command.{Command}
 use Rattle.model.specs.declared.table.Command.the-variants.{TestReady, Recalibrate, RequestSense, FormatDrive, CheckTrack, FormatTrack, FormatBadTrack, Read, Write, Seek, AssignAlternate, WriteBuffer, ReadBuffer, Initialize, Unknown}
@@ -26,7 +27,6 @@ use Rattle.model.specs.Block.{countOf}
 use Rattle.model.specs.Table.{table, unknown, entryOf}
 use Rattle.model.specs.Checks.{judged, View, reach, testsWith, tests, bytesOf, lengthsWith, judge}
 use Rattle.model.proofs.Judged.{passed-on, passed-all}
-use Rattle.model.proofs.Addresses.{track-in}
 
 -- ---- a command has one row
 -- an opcode that has the command

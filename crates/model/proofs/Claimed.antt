@@ -3,7 +3,7 @@ use Prim.Native.Nat.{ℕ, _*_, _≤_, _<_}
 use mathlib.Core.Path.{_≡_, refl, sym, ap, ap₂, _∙_}
 use mathlib.Core.Bool.{true, false≢true}
 use mathlib.Core.Option.{Option, some}
-use mathlib.Core.List.{List, _∷_, map}
+use mathlib.Core.List.{List, [], _∷_, map}
 use native.Mathlib.Omega.{arith}
 use native.Mathlib.Decide.{decLt}
 use lib.ListN.{length}
@@ -15,6 +15,7 @@ use Rattle.geometry.specs.declared.config.Setting.the-variants.{Valid}
 use Rattle.geometry.specs.Params.{Within, trackCount, trackOf, sectorOf}
 use Rattle.geometry.specs.Config.{settingOf}
 use Rattle.geometry.proofs.Settings.{setting-within}
+use Rattle.geometry.proofs.Addresses.{track-of-drive}
 use Rattle.track.specs.Image.{trackBytes, slotData}
 use Rattle.track.specs.Find.{Slot, sectorFound}
 use Rattle.model.specs.declared.verdict.Verdict.the-variants.{Faulty, Passed}
@@ -22,12 +23,11 @@ use Rattle.model.specs.Calls.{Reply}
 use Rattle.model.specs.Checks.{judged}
 use Rattle.model.specs.Engine.{imageOf}
 use Rattle.model.specs.Machine.{Kind, stateless, sound, bad, moved, taken, Disk, Machine, denied, isBad, isTaken, step}
-use Rattle.model.specs.Claim.{replies, atEnd, State, Order, fed, Runs, end, next, begin, beginMachine, isHeld, Holds, Claim}
+use Rattle.model.specs.Claim.{replies, atEnd, State, Order, fed, called, engineReplies, engineAtEnd, begin, beginMachine, isHeld, Holds, Claim}
 use Rattle.model.proofs.Finding.{Found, goes, stops, found-by}
 use Rattle.model.proofs.Agrees.{Stored, nothing, something, Agrees}
 use Rattle.model.proofs.Restarted.{agree-fresh}
 use Rattle.model.proofs.Called.{call-answered}
-use Rattle.model.proofs.Addresses.{track-of-drive}
 
 -- ---- what is held is found
 pub held-passed : (kind : Kind) (a : Lba) → isHeld kind ≡ true → judged (denied kind a) Passed ≡ Passed
@@ -38,9 +38,9 @@ held-passed bad a e = absurd (false≢true e)
 held-passed (moved u) a e = refl
 held-passed (taken u) a e = absurd (false≢true e)
 
-module _ (p : Params) (u : Disk) (image : List ℕ) (a : Lba) (choice : ℕ) (held : isHeld (u .kind (trackOf p a)) ≡ true) where
-  found-held : Found p (u .kind) (u .inter) (u .held) image a choice
-      → (t : Track) × (k : ℕ) × (sectorFound choice p (trackOf p a) (sectorOf p a) image ≡ Slot t k) × (slotData p k (trackBytes p t image) ≡ u .held a)
+module _ (p : Params) (u : Disk) (image : List ℕ) (a : Lba) (held : isHeld (u .kind (trackOf p a)) ≡ true) where
+  found-held : Found p (u .kind) (u .inter) (u .held) image a
+      → (t : Track) × (k : ℕ) × (sectorFound p (trackOf p a) (sectorOf p a) image ≡ Slot t k) × (slotData p k (trackBytes p t image) ≡ u .held a)
   found-held (goes h passed is bytes) = (_, _, is, bytes)
   found-held (stops code fails fault is) =
       let both : Passed ≡ Faulty code a = sym (held-passed (u .kind (trackOf p a)) a held) ∙ fault in
@@ -58,8 +58,8 @@ held-inside p w kind past a held = by (decLt (trackOf p a .0) (trackCount p))
 
 stored-holds : (u : Disk) (image : List ℕ) {o : Option (List ℕ)} → Stored u image o → (config : List ℕ) → o ≡ some config
     → (p : Params) × (settingOf config (length image) ≡ Valid p)
-    × ((a : Lba) (choice : ℕ) → isHeld (u .kind (trackOf p a)) ≡ true
-    → (t : Track) × (k : ℕ) × (sectorFound choice p (trackOf p a) (sectorOf p a) image ≡ Slot t k)
+    × ((a : Lba) → isHeld (u .kind (trackOf p a)) ≡ true
+    → (t : Track) × (k : ℕ) × (sectorFound p (trackOf p a) (sectorOf p a) image ≡ Slot t k)
     × (slotData p k (trackBytes p t image) ≡ u .held a))
 stored-holds u image (nothing i) config e = absurd (let z : _≡_ {A = ℕ} 0 1 = cc in omega arith)
 stored-holds u image (something before p s l i mirror) config e =
@@ -67,22 +67,22 @@ stored-holds u image (something before p s l i mirror) config e =
     let w = setting-within before (length image) p s in (
       p,
       ap (λ (k : List ℕ). settingOf k (length image)) same ∙ s,
-      λ a choice held.
-          found-held p u image a choice held
-          (found-by p (w .0) (u .kind) (u .inter) (u .held) image (w .1) mirror a (held-inside p (w .0) (u .kind) (mirror .past) a held) choice),
+      λ a held.
+          found-held p u image a held
+          (found-by p (w .0) (u .kind) (u .inter) (u .held) image (w .1) mirror a (held-inside p (w .0) (u .kind) (mirror .past) a held)),
     )
 
 -- ---- call by call
-run-follows : {s t : State} {orders : List Order} {answers : List Reply} → Runs s orders answers t → (m : Machine)
-    → Agrees (s .controller) (λ d. imageOf d (s .image0) (s .image1)) m
-    → (answers ≡ replies m (map fed orders)) × ((drive : ℕ) → Holds (atEnd m (map fed orders) .disks drive) (imageOf drive (t .image0) (t .image1)))
-unfolding replies atEnd Holds
-run-follows end m agree = (refl, λ drive. stored-holds _ _ (agree .drives drive .stored))
-run-follows (next {order} call rest) m agree =
-    let now = call-answered call m agree in
-    let later = run-follows rest (step m (fed order) .1) (now .agree) in
+run-follows : (orders : List Order) (s : State) (m : Machine) → Agrees (s .controller) (λ d. imageOf d (s .image0) (s .image1)) m
+    → (engineReplies s orders ≡ replies m (map fed orders))
+    × ((drive : ℕ) → Holds (atEnd m (map fed orders) .disks drive) (imageOf drive (engineAtEnd s orders .image0) (engineAtEnd s orders .image1)))
+unfolding engineReplies engineAtEnd replies atEnd Holds
+run-follows [] s m agree = (refl, λ drive. stored-holds _ _ (agree .drives drive .stored))
+run-follows (order ∷ orders) s m agree =
+    let now = call-answered s order m agree in
+    let later = run-follows orders (called s order .1) (step m (fed order) .1) (now .agree) in
     (ap₂ {C = List Reply} (λ reply answers. reply ∷ answers) (now .same) (later .0), later .1)
 
 pub claimed : Claim
 unfolding Claim begin
-claimed image0 image1 none0 none1 orders answers s runs = run-follows runs (beginMachine image0 image1) (agree-fresh image0 image1 none0 none1)
+claimed image0 image1 none0 none1 orders = run-follows orders _ (beginMachine image0 image1) (agree-fresh image0 image1 none0 none1)

@@ -20,17 +20,17 @@ use Rattle.model.specs.Machine.{Kind, stateless, sound, bad, moved, take
 use Rattle.model.specs.Claim.{isHeld}
 use Rattle.model.proofs.Mirrors.{stateFor, homeOf, Mirrors}
 use mathlib.Core.Bool.{true, false≢true}
-use Rattle.model.proofs.Addresses.{track-in, sector-in, same-track}
+use Rattle.geometry.proofs.Addresses.{track-in, sector-in, same-track}
 
 -- Either the machine uses its bytes and finding gives the slot that has them, or both give one code.
-pub data Found (p : Params) (kind : Track → Kind) (inter : Track → ℕ) (held : Lba → List ℕ) (image : List ℕ) (a : Lba) (choice : ℕ) : Type 0 where
+pub data Found (p : Params) (kind : Track → Kind) (inter : Track → ℕ) (held : Lba → List ℕ) (image : List ℕ) (a : Lba) : Type 0 where
   goes : isHeld (kind (trackOf p a)) ≡ true → judged (denied (kind (trackOf p a)) a) Passed ≡ Passed
-      → sectorFound choice p (trackOf p a) (sectorOf p a) image
+      → sectorFound p (trackOf p a) (sectorOf p a) image
       ≡ Slot (homeOf (trackOf p a) (kind (trackOf p a))) (slotOf (p .sectors) (inter (trackOf p a)) (sectorOf p a))
       → slotData p (slotOf (p .sectors) (inter (trackOf p a)) (sectorOf p a)) (trackBytes p (homeOf (trackOf p a) (kind (trackOf p a))) image) ≡ held a
-      → Found p kind inter held image a choice
+      → Found p kind inter held image a
   stops : (code : ℕ) → (code ≡ 0 → ⊥) → judged (denied (kind (trackOf p a)) a) Passed ≡ Faulty code a
-      → sectorFound choice p (trackOf p a) (sectorOf p a) image ≡ Fault code → Found p kind inter held image a choice
+      → sectorFound p (trackOf p a) (sectorOf p a) image ≡ Fault code → Found p kind inter held image a
 
 -- ---- what a track's kind says by itself
 module _ (t : Track) (a : Lba) (state : Kind) where
@@ -91,38 +91,38 @@ module _ (p : Params) (w : Within p) (kind : Track → Kind) (inter : Track → 
       let pair = mirror .moves t u h e in
       subst (λ (f : ℕ). Formed p u (Taken t) f image) (pair .inters) (taken-formed p kind inter held image mirror u (pair .ours) t (pair .returned))
 
-  module _ (a : Lba) (h : a .0 < trackCount p * p .sectors) (choice : ℕ) where
+  module _ (a : Lba) (h : a .0 < trackCount p * p .sectors) where
     here : trackOf p a .0 < trackCount p
     here = track-in p w a h
 
-    found-kind : (k : Kind) → kind (trackOf p a) ≡ k → Found p kind inter held image a choice
+    found-kind : (k : Kind) → kind (trackOf p a) ≡ k → Found p kind inter held image a
     found-kind stateless e = absurd (mirror .stated (trackOf p a) here e)
     found-kind sound e =
         let t = trackOf p a in
         let k = goes-sound t a (kind t) e in
         goes (k .0) (k .1)
         (rw (k .2)
-        (found-sound p t (inter t) (sectorOf p a) image some-sector (sector-in p w a) choice (sound-formed p kind inter held image mirror t here e)))
+        (found-sound p t (inter t) (sectorOf p a) image some-sector (sector-in p w a) (sound-formed p kind inter held image mirror t here e)))
         (mirror .kept a h (k .0))
     found-kind bad e =
         let t = trackOf p a in
         stops 0x19 (λ z. omega (arith, z)) (stops-bad t a (kind t) e)
-        (found-bad p t (inter t) (sectorOf p a) image some-sector (sector-in p w a) choice (bad-formed p kind inter held image mirror t here e))
+        (found-bad p t (inter t) (sectorOf p a) image some-sector (sector-in p w a) (bad-formed p kind inter held image mirror t here e))
     found-kind (moved u) e =
         let t = trackOf p a in
         let k = goes-moved t a (kind t) u e in
         goes (k .0) (k .1)
         (rw (k .2)
-        (found-moved p t (inter t) (sectorOf p a) image some-sector (sector-in p w a) choice u (inter t) (mirror .moves t u here e .ours)
+        (found-moved p t (inter t) (sectorOf p a) image some-sector (sector-in p w a) u (inter t) (mirror .moves t u here e .ours)
         (moved-formed p kind inter held image mirror t here u e) (partner-formed t u here e)))
         (mirror .kept a h (k .0))
     found-kind (taken u) e =
         let t = trackOf p a in
         stops 0x1C (λ z. omega (arith, z)) (stops-taken t a (kind t) u e)
-        (found-taken p t (inter t) (sectorOf p a) image some-sector (sector-in p w a) choice u (taken-formed p kind inter held image mirror t here u e))
+        (found-taken p t (inter t) (sectorOf p a) image some-sector (sector-in p w a) u (taken-formed p kind inter held image mirror t here u e))
 
-  pub found-by : (a : Lba) → a .0 < trackCount p * p .sectors → (choice : ℕ) → Found p kind inter held image a choice
-  found-by a h choice = found-kind a h choice (kind (trackOf p a)) refl
+  pub found-by : (a : Lba) → a .0 < trackCount p * p .sectors → Found p kind inter held image a
+  found-by a h = found-kind a h (kind (trackOf p a)) refl
 
   -- ---- the home of a held track is one of the drive, and no two held addresses share a slot
   home-kind : (t : Track) (k : Kind) → t .0 < trackCount p → kind t ≡ k → homeOf t k .0 < trackCount p

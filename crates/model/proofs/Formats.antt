@@ -9,11 +9,13 @@ use borrow.Author.Tests.{eqb-false, leb-false}
 use Rattle.base.specs.Pick.{pick}
 use Rattle.base.specs.Part.{part}
 use Rattle.base.proofs.Parts.{length-part}
+use Rattle.base.proofs.Bools.{or-off}
 use Rattle.geometry.specs.declared.params.Lba.{Lba}
 use Rattle.geometry.specs.declared.params.Track.{Track}
 use Rattle.geometry.specs.declared.params.Params.{Params}
 use Rattle.geometry.specs.Params.{Within, trackCount, trackOf}
 use Rattle.geometry.specs.Config.{byte}
+use Rattle.geometry.proofs.Addresses.{track-in}
 use Rattle.track.specs.declared.id.State.the-variants.{Sound, Bad}
 use Rattle.model.specs.declared.block.Block.{Block}
 use Rattle.model.specs.declared.record.Controller.{Controller}
@@ -30,9 +32,7 @@ use Rattle.model.proofs.Remaking.{Remade, sound-remade, bad-remade, ass
 use Rattle.model.proofs.Passages.{OnlyHeld}
 use Rattle.model.proofs.Agrees.{Agrees, Follows}
 use Rattle.model.proofs.Ends.{agree-disk, well-follows, done-follows, verdict-follows}
-use Rattle.base.proofs.Bools.{or-off}
 use Rattle.model.proofs.Judged.{passed-on}
-use Rattle.model.proofs.Addresses.{track-in}
 use Rattle.model.proofs.Current.{InForce, mirrored, drive-again}
 
 -- ---- the fill

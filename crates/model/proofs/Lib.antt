@@ -1,5 +1,4 @@
 pub mod Judged
-pub mod Addresses
 pub mod Mirrors
 pub mod Finding
 pub mod States

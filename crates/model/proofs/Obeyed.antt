@@ -28,7 +28,7 @@ use Rattle.model.proofs.Formats.{check-follows, sound-follows, bad-foll
 use Rattle.model.proofs.Anew.{drive-follows}
 use Rattle.model.proofs.Transfers.{read-follows, write-follows}
 
-module _ (choices : List ℕ) (b : Block) (given area : List ℕ) (c : Controller) (image : ℕ → List ℕ) (m : Machine) (four : b .drive < 4)
+module _ (b : Block) (given area : List ℕ) (c : Controller) (image : ℕ → List ℕ) (m : Machine) (four : b .drive < 4)
     (agree : Agrees c image m) where
   module _ (passed : judge b (seen (m .disks (b .drive))) (length given) (length area) ≡ Passed) (command : Command)
       (is : entryOf (b .opcode) .command ≡ command) where
@@ -49,7 +49,7 @@ module _ (choices : List ℕ) (b : Block) (given area : List ℕ) (c : Controlle
 
   carried-follows : judge b (seen (m .disks (b .drive))) (length given) (length area) ≡ Passed
       → (command : Command) → entryOf (b .opcode) .command ≡ command
-      → Follows image b area (carryOut choices b (seen (m .disks (b .drive)) .setting) given c (image (b .drive)) command)
+      → Follows image b area (carryOut b (seen (m .disks (b .drive)) .setting) given c (image (b .drive)) command)
       (carried b (seen (m .disks (b .drive)) .setting) given m (m .disks (b .drive)) command)
   unfolding carryOut carried entryOf opcodeFor bytesOf sizeIn
   carried-follows passed TestReady is = done-follows image b area c m four agree
@@ -74,11 +74,11 @@ module _ (choices : List ℕ) (b : Block) (given area : List ℕ) (c : Controlle
   carried-follows passed Read is =
       disk-follows passed Read is _ refl _ _ (λ p force clear.
       read-follows image b area c m four agree p force (not-pending (force .within) clear refl refl)
-      (count-cleared (force .within) clear refl refl) choices)
+      (count-cleared (force .within) clear refl refl))
   carried-follows passed Write is =
       disk-follows passed Write is _ refl _ _ (λ p force clear.
       write-follows image b area c m four agree p force (not-pending (force .within) clear refl refl)
-      (count-cleared (force .within) clear refl refl) choices given (clear .enough))
+      (count-cleared (force .within) clear refl refl) given (clear .enough))
   carried-follows passed Seek is = done-follows image b area c m four agree
   carried-follows passed AssignAlternate is =
       disk-follows passed AssignAlternate is _ refl _ _ (λ p force clear.
@@ -92,16 +92,16 @@ module _ (choices : List ℕ) (b : Block) (given area : List ℕ) (c : Controlle
   carried-follows passed Initialize is = initialize-follows image b area c m four agree given
   carried-follows passed Unknown is = fault-follows image b area c m four agree 0x20 (b .address)
 
-pub obey-follows : (choices : List ℕ) (b : Block) (given area : List ℕ) (c : Controller) (image : ℕ → List ℕ) (m : Machine) → b .drive < 4 → Agrees c image m
-    → Follows image b area (obey choices b given (length area) c (image (b .drive))) (ordered b given (length area) m (m .disks (b .drive)))
+pub obey-follows : (b : Block) (given area : List ℕ) (c : Controller) (image : ℕ → List ℕ) (m : Machine) → b .drive < 4 → Agrees c image m
+    → Follows image b area (obey b given (length area) c (image (b .drive))) (ordered b given (length area) m (m .disks (b .drive)))
 unfolding obey ordered viewOf
-obey-follows choices b given area c image m four agree =
+obey-follows b given area c image m four agree =
     let u = m .disks (b .drive) in
     subst
     (λ (v : View). Follows image b area
     (unless (judge b v (length given) (length area)) b c (image (b .drive))
-    (carryOut choices b (v .setting) given c (image (b .drive)) (entryOf (b .opcode) .command)))
+    (carryOut b (v .setting) given c (image (b .drive)) (entryOf (b .opcode) .command)))
     (ordered b given (length area) m u))
     (sym (view-same _ _ u (agree .drives (b .drive))))
     (verdict-follows image b area c m four agree (judge b (seen u) (length given) (length area)) _ _
-    (λ passed. carried-follows choices b given area c image m four agree passed _ refl))
+    (λ passed. carried-follows b given area c image m four agree passed _ refl))

@@ -4,7 +4,7 @@ use mathlib.Core.Path.{_≡_, refl, sym, ap, _∙_}
 use mathlib.Core.List.{List, [], _++_, append-assoc, append-nil}
 use native.Mathlib.Omega.{arith}
 use native.Mathlib.Nat.{zero-add}
-use lib.ListN.{length, take, drop, getD, length-append, length-drop}
+use lib.ListN.{length, take, drop, length-append, length-drop}
 use lib.Seq.{length-take-le, drop-append-add, drop-drop}
 use Rattle.base.specs.Part.{splice}
 use Rattle.base.proofs.Parts.{length-splice, splice-none}
@@ -13,9 +13,9 @@ use Rattle.geometry.specs.declared.params.Track.{Track}
 use Rattle.geometry.specs.declared.params.Params.{Params}
 use Rattle.geometry.specs.Params.{Within, imageLength, trackCount}
 use Rattle.track.specs.Image.{trackBytes, slotData}
+use Rattle.sectors.specs.Transfer.{Transfer, begun, ended as endedBy, readSlot, writeSlot, onward, found, reading, writing}
 use Rattle.model.specs.declared.verdict.Verdict.{Verdict}
 use Rattle.model.specs.declared.verdict.Verdict.the-variants.{Refused, Faulty, Passed}
-use Rattle.model.specs.Transfer.{Transfer, begun, ended as endedBy, readSlot, writeSlot, onward, found, reading, writing}
 use Rattle.model.specs.Machine.{Disk, Passage, storing, finished, withFirst, passing, readFrom, writeFrom, inARow, leaving}
 use Rattle.model.proofs.Mirrors.{Mirrors, KeepsLabel}
 use Rattle.model.proofs.Finding.{Found, goes, stops, found-by}
@@ -136,14 +136,14 @@ module _ (p : Params) (x : Transfer) (u : Disk) (short : length (x .last) ≤ p 
 
 module _ (p : Params) (w : Within p) (u : Disk) where
   module _ (x : Transfer) (fits : imageLength p ≤ length (x .image)) (mirror : Mirrors p (u .kind) (u .inter) (u .held) (x .image))
-      (short : length (x .last) ≤ p .size) (n a : ℕ) (here : a < trackCount p * p .sectors) (choices : List ℕ)
+      (short : length (x .last) ≤ p .size) (n a : ℕ) (here : a < trackCount p * p .sectors)
       (rest : (t : Track) (k : ℕ) → length (slotData p k (trackBytes p t (x .image))) ≡ p .size
-      → ReadOn p n (suc a) (readSlot p x t k) (reading (drop 1 choices) p n (suc a) (readSlot p x t k)) (readFrom p n (suc a) u)) where
+      → ReadOn p n (suc a) (readSlot p x t k) (reading p n (suc a) (readSlot p x t k)) (readFrom p n (suc a) u)) where
     abbrev sector : List ℕ
     sector = u .held (record { 0 = a })
 
     read-more : (t : Track) (k : ℕ) → slotData p k (trackBytes p t (x .image)) ≡ sector → length sector ≡ p .size
-        → ReadOn p (suc n) a x (reading (drop 1 choices) p n (suc a) (readSlot p x t k)) (withFirst sector (readFrom p n (suc a) u))
+        → ReadOn p (suc n) a x (reading p n (suc a) (readSlot p x t k)) (withFirst sector (readFrom p n (suc a) u))
     unfolding readSlot withFirst inARow
     read-more t k e l =
         let r = rest t k (ap length e ∙ l) in
@@ -154,22 +154,22 @@ module _ (p : Params) (w : Within p) (u : Disk) where
           image = r .image;
         }
 
-    read-step : Found p (u .kind) (u .inter) (u .held) (x .image) (record { 0 = a }) (getD choices 0 0)
-        → ReadOn p (suc n) a x (reading choices p (suc n) a x) (readFrom p (suc n) a u)
+    read-step : Found p (u .kind) (u .inter) (u .held) (x .image) (record { 0 = a })
+        → ReadOn p (suc n) a x (reading p (suc n) a x) (readFrom p (suc n) a u)
     unfolding reading readFrom found onward passing
     read-step (goes k j f e) =
         rw (j, f) (read-more _ _ e (length-held p w (u .kind) (u .inter) (u .held) (x .image) fits mirror (record { 0 = a }) here k))
     read-step (stops code c j f) = rw (j, f) (read-stop p x u short (suc n) a code c)
 
-  read-on : (n a : ℕ) (choices : List ℕ) (x : Transfer) → imageLength p ≤ length (x .image) → Mirrors p (u .kind) (u .inter) (u .held) (x .image)
-      → length (x .last) ≤ p .size → x .code ≡ 0 → a + n ≤ trackCount p * p .sectors → ReadOn p n a x (reading choices p n a x) (readFrom p n a u)
+  read-on : (n a : ℕ) (x : Transfer) → imageLength p ≤ length (x .image) → Mirrors p (u .kind) (u .inter) (u .held) (x .image)
+      → length (x .last) ≤ p .size → x .code ≡ 0 → a + n ≤ trackCount p * p .sectors → ReadOn p n a x (reading p n a x) (readFrom p n a u)
   unfolding reading readFrom readSlot
-  read-on zero a choices x fits mirror short c inside = read-none p x u short a c
-  read-on (suc n) a choices x fits mirror short c inside =
+  read-on zero a x fits mirror short c inside = read-none p x u short a c
+  read-on (suc n) a x fits mirror short c inside =
       let here : a < trackCount p * p .sectors = omega arith in
-      read-step x fits mirror short n a here choices
-      (λ t k l. read-on n (suc a) (drop 1 choices) (readSlot p x t k) fits mirror (omega (arith, l)) refl (omega arith))
-      (found-by p w (u .kind) (u .inter) (u .held) (x .image) fits mirror (record { 0 = a }) here (getD choices 0 0))
+      read-step x fits mirror short n a here
+      (λ t k l. read-on n (suc a) (readSlot p x t k) fits mirror (omega (arith, l)) refl (omega arith))
+      (found-by p w (u .kind) (u .inter) (u .held) (x .image) fits mirror (record { 0 = a }) here)
 
   -- reading leaves the disk
   passing-disk : (v : Verdict) (y : Passage) → y .disk ≡ u → passing v u y .disk ≡ u
@@ -221,7 +221,7 @@ module _ (p : Params) (x : Transfer) (u : Disk) (short : length (x .last) ≤ p 
 
 module _ (p : Params) (w : Within p) where
   module _ (u : Disk) (x : Transfer) (fits : imageLength p ≤ length (x .image)) (mirror : Mirrors p (u .kind) (u .inter) (u .held) (x .image))
-      (short : length (x .last) ≤ p .size) (n a : ℕ) (here : a < trackCount p * p .sectors) (choices given : List ℕ)
+      (short : length (x .last) ≤ p .size) (n a : ℕ) (here : a < trackCount p * p .sectors) (given : List ℕ)
       (whole : length (take (p .size) given) ≡ p .size) where
     abbrev written : List ℕ
     written = take (p .size) given
@@ -234,7 +234,7 @@ module _ (p : Params) (w : Within p) where
     next t k = writeSlot p written x t k
 
     abbrev on : Track → ℕ → Transfer
-    on t k = writing (drop 1 choices) p n (suc a) (drop (p .size) given) (next t k)
+    on t k = writing p n (suc a) (drop (p .size) given) (next t k)
 
     abbrev rest : Passage
     rest = writeFrom p n (suc a) (drop (p .size) given) disk
@@ -254,8 +254,8 @@ module _ (p : Params) (w : Within p) where
             only = only-first u _ _ _ (r .only);
           }
 
-      write-step : Found p (u .kind) (u .inter) (u .held) (x .image) (record { 0 = a }) (getD choices 0 0)
-          → WriteOn p (suc n) a x (writing choices p (suc n) a given x) u (writeFrom p (suc n) a given u)
+      write-step : Found p (u .kind) (u .inter) (u .held) (x .image) (record { 0 = a })
+          → WriteOn p (suc n) a x (writing p (suc n) a given x) u (writeFrom p (suc n) a given u)
       unfolding writing writeFrom found onward passing writeSlot storing
       write-step (goes k j f e) = rw (j, f)
           (write-more _ _
@@ -263,34 +263,34 @@ module _ (p : Params) (w : Within p) where
           (stored-keeps p w (u .kind) (u .inter) (u .held) (x .image) fits mirror (record { 0 = a }) here k written whole))
       write-step (stops code c j f) = rw (j, f) (write-stop p x u short mirror (suc n) a code c)
 
-  write-on : (n a : ℕ) (choices given : List ℕ) (u : Disk) (x : Transfer) → imageLength p ≤ length (x .image)
+  write-on : (n a : ℕ) (given : List ℕ) (u : Disk) (x : Transfer) → imageLength p ≤ length (x .image)
       → Mirrors p (u .kind) (u .inter) (u .held) (x .image) → length (x .last) ≤ p .size → x .code ≡ 0 → a + n ≤ trackCount p * p .sectors
-      → n * p .size ≤ length given → WriteOn p n a x (writing choices p n a given x) u (writeFrom p n a given u)
+      → n * p .size ≤ length given → WriteOn p n a x (writing p n a given x) u (writeFrom p n a given u)
   unfolding writing writeFrom writeSlot
-  write-on zero a choices given u x fits mirror short c inside enough = write-none p x u short mirror a c
-  write-on (suc n) a choices given u x fits mirror short c inside enough =
+  write-on zero a given u x fits mirror short c inside enough = write-none p x u short mirror a c
+  write-on (suc n) a given u x fits mirror short c inside enough =
       let here : a < trackCount p * p .sectors = omega arith in
       let whole : length (take (p .size) given) ≡ p .size = length-take-le (p .size) given (omega arith) in
-      write-step u x fits mirror short n a here choices given whole
-      (λ t k m l. write-on n (suc a) (drop 1 choices) (drop (p .size) given) _ _ (rw (l .len) fits) m (omega (arith, whole)) refl (omega arith)
+      write-step u x fits mirror short n a here given whole
+      (λ t k m l. write-on n (suc a) (drop (p .size) given) _ _ (rw (l .len) fits) m (omega (arith, whole)) refl (omega arith)
       (rw (length-drop (p .size) given) (omega arith)))
-      (found-by p w (u .kind) (u .inter) (u .held) (x .image) fits mirror (record { 0 = a }) here (getD choices 0 0))
+      (found-by p w (u .kind) (u .inter) (u .held) (x .image) fits mirror (record { 0 = a }) here)
 
 -- ---- whole transfers
 module _ (p : Params) (w : Within p) (u : Disk) (image : List ℕ) (fits : imageLength p ≤ length image)
-    (mirror : Mirrors p (u .kind) (u .inter) (u .held) image) (n a : ℕ) (inside : a + n ≤ trackCount p * p .sectors) (choices : List ℕ) where
-  read-all : ReadOn p n a (begun image) (reading choices p n a (begun image)) (readFrom p n a u)
+    (mirror : Mirrors p (u .kind) (u .inter) (u .held) image) (n a : ℕ) (inside : a + n ≤ trackCount p * p .sectors) where
+  read-all : ReadOn p n a (begun image) (reading p n a (begun image)) (readFrom p n a u)
   unfolding begun
-  read-all = read-on p w u n a choices (begun image) fits mirror (omega arith) refl inside
+  read-all = read-on p w u n a (begun image) fits mirror (omega arith) refl inside
 
-  pub read-together : Together p n a (reading choices p n a (begun image)) (readFrom p n a u)
+  pub read-together : Together p n a (reading p n a (begun image)) (readFrom p n a u)
   read-together = went-together p n a image _ _ (read-all .went)
 
-  pub read-handed : reading choices p n a (begun image) .handed ≡ inARow (readFrom p n a u .sectors)
+  pub read-handed : reading p n a (begun image) .handed ≡ inARow (readFrom p n a u .sectors)
   unfolding begun
   read-handed = read-all .handed
 
-  pub read-image : reading choices p n a (begun image) .image ≡ image
+  pub read-image : reading p n a (begun image) .image ≡ image
   unfolding begun
   read-image = read-all .image
 
@@ -298,22 +298,22 @@ module _ (p : Params) (w : Within p) (u : Disk) (image : List ℕ) (fits : image
   read-disk = read-leaves p w u n a
 
   module _ (given : List ℕ) (enough : n * p .size ≤ length given) where
-    write-all : WriteOn p n a (begun image) (writing choices p n a given (begun image)) u (writeFrom p n a given u)
+    write-all : WriteOn p n a (begun image) (writing p n a given (begun image)) u (writeFrom p n a given u)
     unfolding begun
-    write-all = write-on p w n a choices given u (begun image) fits mirror (omega arith) refl inside enough
+    write-all = write-on p w n a given u (begun image) fits mirror (omega arith) refl inside enough
 
-    pub write-together : Together p n a (writing choices p n a given (begun image)) (writeFrom p n a given u)
+    pub write-together : Together p n a (writing p n a given (begun image)) (writeFrom p n a given u)
     write-together = went-together p n a image _ _ (write-all .went)
 
-    pub write-handed : writing choices p n a given (begun image) .handed ≡ []
+    pub write-handed : writing p n a given (begun image) .handed ≡ []
     unfolding begun
     write-handed = write-all .handed
 
     pub write-mirror : Mirrors p (writeFrom p n a given u .disk .kind) (writeFrom p n a given u .disk .inter) (writeFrom p n a given u .disk .held)
-        (writing choices p n a given (begun image) .image)
+        (writing p n a given (begun image) .image)
     write-mirror = write-all .mirror
 
-    pub write-keeps : KeepsLabel image (writing choices p n a given (begun image) .image)
+    pub write-keeps : KeepsLabel image (writing p n a given (begun image) .image)
     unfolding begun
     write-keeps = write-all .keeps
 

@@ -19,6 +19,7 @@ use Rattle.geometry.specs.declared.params.Track.{Track}
 use Rattle.geometry.specs.declared.params.Params.{Params}
 use Rattle.geometry.specs.Params.{Within, trackCount, trackOf, lastAddress}
 use Rattle.geometry.proofs.Sizes.{sectors-some}
+use Rattle.geometry.proofs.Addresses.{track-in, same-track}
 use Rattle.interleave.specs.Layout.{layoutOf}
 use Rattle.track.specs.declared.id.State.{State}
 use Rattle.track.specs.declared.id.State.the-variants.{Sound, Bad, Moved, Taken}
@@ -32,7 +33,6 @@ use Rattle.model.specs.Commands.{isBad as badState, isMoved as movedStat
 use Rattle.model.specs.Machine.{Kind, stateless, sound, bad, moved, taken, isBad, isMoved, isTaken, denied, paired, parted, partedBy, someParted, unassignable}
 use Rattle.model.proofs.Mirrors.{stateFor, Mirrors}
 use Rattle.model.proofs.Finding.{sound-formed, bad-formed, moved-formed, taken-formed}
-use Rattle.model.proofs.Addresses.{track-in, same-track}
 
 -- ---- pairs that are split
 -- at most is not above

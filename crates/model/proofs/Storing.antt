@@ -3,7 +3,6 @@ use Prim.Native.Nat.{ℕ, _+_, _*_, _<_, _≤_}
 use mathlib.Core.Path.{_≡_, sym, ap, ap₂, _∙_}
 use mathlib.Core.Bool.{true}
 use mathlib.Core.List.{List}
-use native.Mathlib.Omega.{arith}
 use native.Mathlib.Decide.{ℕ-discrete}
 use native.Mathlib.Nat.{div-add-mod'}
 use lib.ListN.{length}
@@ -11,25 +10,19 @@ use lib.Dec.{eqb}
 use borrow.Author.Tests.{eq-eqb, ne-eqb}
 use Rattle.base.specs.Pick.{pick}
 use Rattle.base.proofs.Decide.{pick-true, pick-false}
-use Rattle.base.proofs.Parts.{length-part}
 use Rattle.geometry.specs.declared.params.Lba.{Lba}
 use Rattle.geometry.specs.declared.params.Track.{Track}
 use Rattle.geometry.specs.declared.params.Params.{Params}
-use Rattle.geometry.specs.Params.{Within, imageLength, slotSize, trackSize, trackCount, trackOf, sectorOf}
+use Rattle.geometry.specs.Params.{Within, imageLength, trackSize, trackCount, trackOf, sectorOf}
+use Rattle.geometry.proofs.Addresses.{track-in, sector-in}
 use Rattle.interleave.proofs.Slots.{sectorAt, slotOf, slot-lt, sector-slot}
 use Rattle.track.specs.Image.{trackBytes, withTrack, slotData, withData}
-use Rattle.track.proofs.Images.{length-track, length-with-track, track-same, track-other, label-kept, slot-room, length-with-data, data-same, data-other}
+use Rattle.track.proofs.Images.{length-track, length-with-track, track-same, track-other, label-kept, length-data, length-with-data, data-same, data-other}
 use Rattle.track.proofs.SameIds.{SameIds, data-keeps}
 use Rattle.model.specs.Machine.{Kind}
 use Rattle.model.specs.Claim.{isHeld}
 use Rattle.model.proofs.Mirrors.{homeOf, Mirrors, KeepsLabel}
 use Rattle.model.proofs.Finding.{home-ours, home-apart}
-use Rattle.model.proofs.Addresses.{track-in, sector-in}
-
--- a slot's data are D bytes
-pub length-data : (p : Params) (k : ℕ) (bytes : List ℕ) → length bytes ≡ trackSize p → k < p .sectors → length (slotData p k bytes) ≡ p .size
-unfolding slotData
-length-data p k bytes l h = length-part (k * slotSize p + 8) (p .size) bytes (omega (arith, l, slot-room p bytes l k h))
 
 -- two sectors have two slots
 slots-apart : (n f r s : ℕ) → r < n → s < n → (r ≡ s → ⊥) → slotOf n f r ≡ slotOf n f s → ⊥
@@ -60,7 +53,7 @@ module _ (p : Params) (w : Within p) (kind : Track → Kind) (inter : Track → 
     pub length-held : length (held a) ≡ p .size
     length-held =
         rw (← mirror .kept a ha ka)
-        (length-data p (slot a) (trackBytes p (home a) image) (length-track p image fits (home a) (home-in a ha)) (slot-in a ha))
+        (length-data p (trackBytes p (home a) image) (length-track p image fits (home a) (home-in a ha)) (slot a) (slot-in a ha))
 
     module _ (sector : List ℕ) (ls : length sector ≡ p .size) where
       -- the track and the image with the sector in its slot

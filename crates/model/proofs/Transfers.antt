@@ -11,12 +11,12 @@ use Rattle.base.specs.Part.{splice}
 use Rattle.base.proofs.Decide.{pick-true, pick-false}
 use Rattle.geometry.specs.declared.params.Params.{Params}
 use Rattle.geometry.specs.Params.{Within, trackCount}
+use Rattle.sectors.specs.Transfer.{Transfer, begun, reading, writing}
 use Rattle.model.specs.declared.block.Block.{Block}
 use Rattle.model.specs.declared.record.Controller.{Controller}
 use Rattle.model.specs.Block.{countOf}
 use Rattle.model.specs.Record.{driveAt, withBuffer}
-use Rattle.model.specs.Transfer.{Transfer, begun, reading, writing, transferred}
-use Rattle.model.specs.Commands.{read as readOn, write as writeOn}
+use Rattle.model.specs.Commands.{transferred, read as readOn, write as writeOn}
 use Rattle.model.specs.Machine.{Machine, Passage, changed, withDisk, readFrom, writeFrom, leaving, transferBy, transfer, read, write}
 use Rattle.model.specs.Machine.{withBuffer as buffering}
 use Rattle.model.proofs.Mirrors.{Mirrors}
@@ -56,40 +56,40 @@ module _ (image : ℕ → List ℕ) (b : Block) (area : List ℕ) (c : Controlle
             (failing-follows image b area four (x .done) (x .handed) _ (x .image) _ len left (x .code) (record { 0 = b .address .0 + x .done }))
 
   module _ (p : Params) (force : InForce (driveAt c (b .drive)) (image (b .drive)) (m .disks (b .drive)) p) (calm : m .disks (b .drive) .pending ≡ false)
-      (inside : b .address .0 + countOf b ≤ trackCount p * p .sectors) (choices : List ℕ) where
+      (inside : b .address .0 + countOf b ≤ trackCount p * p .sectors) where
     mirror : Mirrors p (m .disks (b .drive) .kind) (m .disks (b .drive) .inter) (m .disks (b .drive) .held) (image (b .drive))
     mirror = mirrored _ _ _ (agree .drives (b .drive)) p force calm
 
-    pub read-follows : Follows image b area (readOn choices b p c (image (b .drive))) (read b p m (m .disks (b .drive)))
+    pub read-follows : Follows image b area (readOn b p c (image (b .drive))) (read b p m (m .disks (b .drive)))
     unfolding readOn read
     read-follows =
         let u = m .disks (b .drive) in
         let n = countOf b in
         let a = b .address .0 in
-        let x = reading choices p n a (begun (image (b .drive))) in
+        let x = reading p n a (begun (image (b .drive))) in
         let y = readFrom p n a u in
-        let i = read-image p (force .within) u (image (b .drive)) (force .fits) mirror n a inside choices in
-        let v = read-disk p (force .within) u (image (b .drive)) (force .fits) mirror n a inside choices in
+        let i = read-image p (force .within) u (image (b .drive)) (force .fits) mirror n a inside in
+        let v = read-disk p (force .within) u (image (b .drive)) (force .fits) mirror n a inside in
         let drive : Drives (driveAt c (b .drive)) (x .image) (y .disk) = rw (i, v) (agree .drives (b .drive)) in
         subst (λ (handed : List ℕ). Follows image b area (transferred b c x) (transfer b y handed m))
-        (read-handed p (force .within) u (image (b .drive)) (force .fits) mirror n a inside choices)
-        (transfer-follows p (force .within) n x y (read-together p (force .within) u (image (b .drive)) (force .fits) mirror n a inside choices)
+        (read-handed p (force .within) u (image (b .drive)) (force .fits) mirror n a inside)
+        (transfer-follows p (force .within) n x y (read-together p (force .within) u (image (b .drive)) (force .fits) mirror n a inside)
         (ap length i) drive)
 
     pub write-follows : (given : List ℕ) → countOf b * p .size ≤ length given
-        → Follows image b area (writeOn choices b p given c (image (b .drive))) (write b p given m (m .disks (b .drive)))
+        → Follows image b area (writeOn b p given c (image (b .drive))) (write b p given m (m .disks (b .drive)))
     unfolding writeOn write
     write-follows given enough =
         let u = m .disks (b .drive) in
         let n = countOf b in
         let a = b .address .0 in
-        let x = writing choices p n a given (begun (image (b .drive))) in
+        let x = writing p n a given (begun (image (b .drive))) in
         let y = writeFrom p n a given u in
-        let keeps = write-keeps p (force .within) u (image (b .drive)) (force .fits) mirror n a inside choices given enough in
+        let keeps = write-keeps p (force .within) u (image (b .drive)) (force .fits) mirror n a inside given enough in
         let drive = drive-again _ _ u (agree .drives (b .drive)) p force calm (y .disk) (x .image)
-        (write-only p (force .within) u (image (b .drive)) (force .fits) mirror n a inside choices given enough) keeps
-        (write-mirror p (force .within) u (image (b .drive)) (force .fits) mirror n a inside choices given enough) in
+        (write-only p (force .within) u (image (b .drive)) (force .fits) mirror n a inside given enough) keeps
+        (write-mirror p (force .within) u (image (b .drive)) (force .fits) mirror n a inside given enough) in
         subst (λ (handed : List ℕ). Follows image b area (transferred b c x) (transfer b y handed m))
-        (write-handed p (force .within) u (image (b .drive)) (force .fits) mirror n a inside choices given enough)
+        (write-handed p (force .within) u (image (b .drive)) (force .fits) mirror n a inside given enough)
         (transfer-follows p (force .within) n x y
-        (write-together p (force .within) u (image (b .drive)) (force .fits) mirror n a inside choices given enough) (keeps .len) drive)
+        (write-together p (force .within) u (image (b .drive)) (force .fits) mirror n a inside given enough) (keeps .len) drive)

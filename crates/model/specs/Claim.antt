@@ -16,9 +16,8 @@ use Rattle.track.specs.Image.{trackBytes, slotData}
 use Rattle.track.specs.Find.{Slot, sectorFound}
 use Rattle.model.specs.declared.record.Controller.{Controller}
 use Rattle.model.specs.declared.record.Answer.{Answer}
-use Rattle.model.specs.declared.record.Outcome.{Outcome}
 use Rattle.model.specs.Calls.{Call, reset, command, Reply}
-use Rattle.model.specs.Engine.{Result, Executed, imageOf, fresh, resetOf}
+use Rattle.model.specs.Engine.{Result, imageOf, execute, fresh, resetOf}
 use Rattle.model.specs.Machine.{Kind, stateless, sound, bad, moved, taken, Disk, Machine, freshMachine, step}
 
 -- ---- The plain machine, fed with a list of calls: its replies, and what it is at the end
@@ -57,20 +56,27 @@ replyOf answer area = record {
   handed = take (answer .bytes) area;
 }
 
--- One call: what it leaves is what the promise of `reset` or `execute` allows.
-pub data Calls : State → Order → Reply → State → Type 0 where
-  by-reset : {s : State} (outcome : Outcome) → outcome ≡ resetOf (s .image0) (s .image1)
-      → Calls s Reset (replyOf (outcome .answer) []) (record { controller = outcome .controller; image0 = s .image0; image1 = s .image1 })
-  by-execute : {s : State} {block given area : List ℕ} (result : Result)
-      → Executed (s .controller) block given area (s .image0) (s .image1) result
-      → Calls s (Command block given area) (replyOf (result .outcome .answer) (result .area))
-      (record { controller = result .outcome .controller; image0 = result .image0; image1 = result .image1 })
+-- What a call replies, and what it leaves for the next.
+unfoldable pub replied : Result → Reply × State
+replied r = (
+  replyOf (r .outcome .answer) (r .area),
+  record { controller = r .outcome .controller; image0 = r .image0; image1 = r .image1 },
+)
 
--- A list of calls, each of which gets the controller and the images that the call before left.
-pub data Runs : State → List Order → List Reply → State → Type 0 where
-  end : {s : State} → Runs s [] [] s
-  next : {s t u : State} {order : Order} {orders : List Order} {reply : Reply} {rest : List Reply}
-      → Calls s order reply t → Runs t orders rest u → Runs s (order ∷ orders) (reply ∷ rest) u
+-- One call: what `reset` and `execute` promise to leave.
+unfoldable pub called : State → Order → Reply × State
+called s Reset = replied (record { outcome = resetOf (s .image0) (s .image1); area = []; image0 = s .image0; image1 = s .image1 })
+called s (Command block given area) = replied (execute (s .controller) block given area (s .image0) (s .image1))
+
+-- A list of calls, each of which gets the controller and the images that the call before left: its replies, and what is left
+-- at the end.
+unfoldable pub engineReplies : State → List Order → List Reply
+engineReplies s [] = []
+engineReplies s (order ∷ orders) = called s order .0 ∷ engineReplies (called s order .1) orders
+
+unfoldable pub engineAtEnd : State → List Order → State
+engineAtEnd s [] = s
+engineAtEnd s (order ∷ orders) = engineAtEnd (called s order .1) orders
 
 -- ---- From a fresh controller and images without a valid label, such as zeros: no configuration is stored
 unfoldable pub begin : (image0 image1 : List ℕ) → State
@@ -88,20 +94,21 @@ isHeld bad = false
 isHeld (moved u) = true
 isHeld (taken u) = false
 
--- The stored configuration is valid with the image, and for each address on a sound or moved track under it, whatever choice
--- is made, finding gives no error but a slot whose D bytes are the machine's.
+-- The stored configuration is valid with the image, and for each address on a sound or moved track under it finding gives no
+-- error but a slot whose D bytes are the machine's.
 unfoldable pub Holds : Disk → (image : List ℕ) → Type 0
 Holds u image =
     (config : List ℕ) → u .stored ≡ some config
     → (p : Params) × (settingOf config (length image) ≡ Valid p)
-    × ((a : Lba) (choice : ℕ) → isHeld (u .kind (trackOf p a)) ≡ true
-    → (t : Track) × (k : ℕ) × (sectorFound choice p (trackOf p a) (sectorOf p a) image ≡ Slot t k)
+    × ((a : Lba) → isHeld (u .kind (trackOf p a)) ≡ true
+    → (t : Track) × (k : ℕ) × (sectorFound p (trackOf p a) (sectorOf p a) image ≡ Slot t k)
     × (slotData p k (trackBytes p t image) ≡ u .held a))
 
 -- ---- The claim
 unfoldable pub Claim : Type 0
 Claim =
     (image0 image1 : List ℕ) → labelSetting image0 ≡ Invalid → labelSetting image1 ≡ Invalid
-    → (orders : List Order) (answers : List Reply) (s : State) → Runs (begin image0 image1) orders answers s
-    → (answers ≡ replies (beginMachine image0 image1) (map fed orders))
+    → (orders : List Order)
+    → let s = engineAtEnd (begin image0 image1) orders in
+    (engineReplies (begin image0 image1) orders ≡ replies (beginMachine image0 image1) (map fed orders))
     × ((drive : ℕ) → Holds (atEnd (beginMachine image0 image1) (map fed orders) .disks drive) (imageOf drive (s .image0) (s .image1)))

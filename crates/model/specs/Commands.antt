@@ -1,5 +1,5 @@
 -- Document 01, 'Commands': each command's own checks, and what it does to the controller and the image of its drive.
-use Prim.Native.Nat.{ℕ, _-_}
+use Prim.Native.Nat.{ℕ, _+_, _-_}
 use mathlib.Core.Bool.{Bool, true, false, not, _||_}
 use mathlib.Core.List.{List, [], _∷_, _++_}
 use lib.ListN.{length, replicate}
@@ -20,6 +20,7 @@ use Rattle.track.specs.Image.{withTrack}
 use Rattle.track.specs.Format.{formatted, soundFrom}
 use Rattle.track.specs.Check.{checkCode}
 use Rattle.track.specs.Pair.{stateOf, pairSplit}
+use Rattle.sectors.specs.Transfer.{Transfer, begun, reading, writing}
 use Rattle.model.specs.declared.block.Block.{Block}
 use Rattle.model.specs.declared.table.Command.{Command}
 use Rattle.model.specs.declared.table.Command.the-variants.{TestReady, Recalibrate, RequestSense, FormatDrive, CheckTrack, FormatTrack, FormatBadTrack, Read, Write, Seek, AssignAlternate, WriteBuffer, ReadBuffer, Initialize, Unknown}
@@ -29,7 +30,6 @@ use Rattle.model.specs.declared.verdict.Verdict.the-variants.{Passed}
 use Rattle.model.specs.Block.{countOf, fromBuffer, alternateOf}
 use Rattle.model.specs.Checks.{Test, on, judged}
 use Rattle.model.specs.Record.{driveAt, withDrive, withBuffer, Effect, good, failed, unless}
-use Rattle.model.specs.Transfer.{begun, reading, writing, transferred}
 
 -- ---- The states that own checks ask about
 unfoldable pub isBad : State → Bool
@@ -104,11 +104,18 @@ formatTrack b p state fill c image =
     (good b 0 [] c (madeAt b p (trackOf p (b .address)) state fill image))
 
 -- ---- 08 Read, 0Ah Write
-unfoldable pub read : (choices : List ℕ) → Block → Params → Controller → (image : List ℕ) → Effect
-read choices b p c image = transferred b c (reading choices p (countOf b) (b .address .0) (begun image))
+-- Each sector read or written is left in the buffer's first D bytes. A failing sector's address goes with its code.
+unfoldable pub transferred : Block → Controller → Transfer → Effect
+transferred b c x =
+    pick (eqb (x .code) 0)
+    (good b (x .done) (x .handed) (withBuffer (splice 0 (x .last) (c .buffer)) c) (x .image))
+    (failed b (x .code) (record { 0 = b .address .0 + x .done }) (x .done) (x .handed) (withBuffer (splice 0 (x .last) (c .buffer)) c) (x .image))
 
-unfoldable pub write : (choices : List ℕ) → Block → Params → (given : List ℕ) → Controller → (image : List ℕ) → Effect
-write choices b p given c image = transferred b c (writing choices p (countOf b) (b .address .0) given (begun image))
+unfoldable pub read : Block → Params → Controller → (image : List ℕ) → Effect
+read b p c image = transferred b c (reading p (countOf b) (b .address .0) (begun image))
+
+unfoldable pub write : Block → Params → (given : List ℕ) → Controller → (image : List ℕ) → Effect
+write b p given c image = transferred b c (writing p (countOf b) (b .address .0) given (begun image))
 
 -- ---- 0Eh Assign Alternate. A is the track of the block's address a, B the track of the address `alternate` given.
 -- First byte above 1Fh, 22h; B out of range, 21h; A moved, 1Dh; A taken, 1Ch; B = A, 22h; B taken, 1Dh; B moved or bad, 1Fh.
@@ -156,19 +163,19 @@ onDisk Invalid b c image run = failed b 0x0A (b .address) 0 [] c image
 onDisk (Valid p) b c image run = run p
 
 -- ---- A command whose checks have passed, up to its own. 00, 01 and 0Bh are checks only.
-unfoldable pub carryOut : (choices : List ℕ) → Block → Setting → (given : List ℕ) → Controller → (image : List ℕ) → Command → Effect
-carryOut choices b setting given c image TestReady = good b 0 [] c image
-carryOut choices b setting given c image Recalibrate = good b 0 [] c image
-carryOut choices b setting given c image RequestSense = requestSense b c image
-carryOut choices b setting given c image FormatDrive = onDisk setting b c image (λ p. formatDrive b p c image)
-carryOut choices b setting given c image CheckTrack = onDisk setting b c image (λ p. checkTrack b p c image)
-carryOut choices b setting given c image FormatTrack = onDisk setting b c image (λ p. formatTrack b p Sound (fillOf b p c) c image)
-carryOut choices b setting given c image FormatBadTrack = onDisk setting b c image (λ p. formatTrack b p Bad (plainFill p) c image)
-carryOut choices b setting given c image Read = onDisk setting b c image (λ p. read choices b p c image)
-carryOut choices b setting given c image Write = onDisk setting b c image (λ p. write choices b p given c image)
-carryOut choices b setting given c image Seek = good b 0 [] c image
-carryOut choices b setting given c image AssignAlternate = onDisk setting b c image (λ p. assignAlternate b p given c image)
-carryOut choices b setting given c image WriteBuffer = good b 0 [] (withBuffer (part 0 512 given) c) image
-carryOut choices b setting given c image ReadBuffer = good b 0 (c .buffer) c image
-carryOut choices b setting given c image Initialize = initialize b given c image
-carryOut choices b setting given c image Unknown = failed b 0x20 (b .address) 0 [] c image
+unfoldable pub carryOut : Block → Setting → (given : List ℕ) → Controller → (image : List ℕ) → Command → Effect
+carryOut b setting given c image TestReady = good b 0 [] c image
+carryOut b setting given c image Recalibrate = good b 0 [] c image
+carryOut b setting given c image RequestSense = requestSense b c image
+carryOut b setting given c image FormatDrive = onDisk setting b c image (λ p. formatDrive b p c image)
+carryOut b setting given c image CheckTrack = onDisk setting b c image (λ p. checkTrack b p c image)
+carryOut b setting given c image FormatTrack = onDisk setting b c image (λ p. formatTrack b p Sound (fillOf b p c) c image)
+carryOut b setting given c image FormatBadTrack = onDisk setting b c image (λ p. formatTrack b p Bad (plainFill p) c image)
+carryOut b setting given c image Read = onDisk setting b c image (λ p. read b p c image)
+carryOut b setting given c image Write = onDisk setting b c image (λ p. write b p given c image)
+carryOut b setting given c image Seek = good b 0 [] c image
+carryOut b setting given c image AssignAlternate = onDisk setting b c image (λ p. assignAlternate b p given c image)
+carryOut b setting given c image WriteBuffer = good b 0 [] (withBuffer (part 0 512 given) c) image
+carryOut b setting given c image ReadBuffer = good b 0 (c .buffer) c image
+carryOut b setting given c image Initialize = initialize b given c image
+carryOut b setting given c image Unknown = failed b 0x20 (b .address) 0 [] c image

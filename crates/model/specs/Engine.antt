@@ -1,6 +1,5 @@
 -- The engine: what `execute` and `reset` promise, for any record, block, given data, data area and images.
 use Prim.Native.Nat.{ℕ}
-use mathlib.Core.Path.{_≡_}
 use mathlib.Core.Bool.{true, false}
 use mathlib.Core.List.{List, [], _∷_}
 use lib.ListN.{length, replicate}
@@ -25,10 +24,10 @@ unfoldable pub viewOf : Drive → (image : ℕ) → View
 viewOf entry image = record { present = presentWith image; setting = settingIn entry image; pending = entry .pending }
 
 -- The order of checks with numbers 2 and 3, then the command.
-unfoldable pub obey : (choices : List ℕ) → Block → (given : List ℕ) → (area : ℕ) → Controller → (image : List ℕ) → Effect
-obey choices b given area c image =
+unfoldable pub obey : Block → (given : List ℕ) → (area : ℕ) → Controller → (image : List ℕ) → Effect
+obey b given area c image =
     unless (judge b (viewOf (driveAt c (b .drive)) (length image)) (length given) area) b c image
-    (carryOut choices b (settingIn (driveAt c (b .drive)) (length image)) given c image (entryOf (b .opcode) .command))
+    (carryOut b (settingIn (driveAt c (b .drive)) (length image)) given c image (entryOf (b .opcode) .command))
 
 -- ---- All that a call leaves
 pub record Result : Type 0 where
@@ -51,15 +50,15 @@ left drive effect area image0 image1 = record {
 }
 
 -- A command on the image of the drive that it names.
-abbrev pub onImages : (choices : List ℕ) → Block → (given : List ℕ) → Controller → (area image0 image1 : List ℕ) → Result
-onImages choices b given c area image0 image1 =
-    left (b .drive) (obey choices b given (length area) c (imageOf (b .drive) image0 image1)) area image0 image1
+abbrev pub onImages : Block → (given : List ℕ) → Controller → (area image0 image1 : List ℕ) → Result
+onImages b given c area image0 image1 =
+    left (b .drive) (obey b given (length area) c (imageOf (b .drive) image0 image1)) area image0 image1
 
 -- A block that is not six bytes: number 1, all unchanged.
-unfoldable pub execute : (choices : List ℕ) → Controller → (block given area image0 image1 : List ℕ) → Result
-execute choices c block given area image0 image1 =
+unfoldable pub execute : Controller → (block given area image0 image1 : List ℕ) → Result
+execute c block given area image0 image1 =
     pick (eqb (length block) 6)
-    (onImages choices (blockOf block) given c area image0 image1)
+    (onImages (blockOf block) given c area image0 image1)
     (record { outcome = bareOutcome 1 c; area = area; image0 = image0; image1 = image1 })
 
 -- ---- Reset: the buffer and all sixteen sense bytes are zero. A valid label comes into force, not pending; otherwise the
@@ -78,7 +77,3 @@ fresh image0 image1 = record { buffer = replicate 512 0; drives = loaded image0 
 -- It answers zeros and changes no image.
 unfoldable pub resetOf : (image0 image1 : List ℕ) → Outcome
 resetOf image0 image1 = bareOutcome 0 (fresh image0 image1)
-
--- ---- What `execute` promises: some choices among duplicate slots explain all that it leaves.
-unfoldable pub Executed : Controller → (block given area image0 image1 : List ℕ) → Result → Type 0
-Executed c block given area image0 image1 result = (choices : List ℕ) × (result ≡ execute choices c block given area image0 image1)

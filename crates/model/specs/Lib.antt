@@ -4,7 +4,6 @@ pub mod Checks
 pub mod Sense
 pub mod Calls
 pub mod Record
-pub mod Transfer
 pub mod Commands
 pub mod Engine
 pub mod Machine

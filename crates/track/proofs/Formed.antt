@@ -7,13 +7,12 @@ use Prim.Native.Nat.{ℕ, _<_}
 use native.Mathlib.Omega.{arith}
 use native.Mathlib.Decide.{ℕ-discrete}
 use lib.ListN.{length, getD}
-use lib.Dec.{eqb, ltb}
-use borrow.Author.Tests.{eq-eqb, ne-eqb, eqb-true, lt-ltb, ltb-true}
+use lib.Dec.{eqb}
+use borrow.Author.Tests.{eq-eqb, ne-eqb, eqb-true, lt-ltb}
 use Rattle.base.specs.Pick.{pick}
-use Rattle.base.specs.First.{firstBelow}
 use Rattle.base.specs.Same.{sameBytes}
 use Rattle.base.proofs.Decide.{pick-true, pick-false}
-use Rattle.base.proofs.Firsts.{first-some, first-none, every-true, every-at}
+use Rattle.base.proofs.Firsts.{every-true, every-at}
 use Rattle.base.proofs.Sames.{same-self, same-eq}
 use Rattle.geometry.specs.declared.params.Params.{Params}
 use Rattle.geometry.specs.declared.params.Track.{Track}
@@ -32,6 +31,7 @@ use Rattle.track.specs.Find.{takenBy, whereBy, whereOf, holds, slotUsed,
 use Rattle.track.specs.Check.{idIs, idsAre, homeState, checkedOn, checkCode}
 use Rattle.track.specs.Pair.{stateBy, stateOf}
 use Rattle.track.proofs.Ids.{id-back, own-for, sector-for}
+use Rattle.track.proofs.Used.{used-holds, unused}
 use Rattle.track.proofs.Formats.{id-formatted, data-formatted}
 
 -- every slot of track t has the ID that a format with this state and interleave writes there
@@ -118,7 +118,7 @@ module _ (p : Params) (t : Track) (f : ℕ) (image : List ℕ) (some-sector : 0 
       (by-moved p t (sectorAt (p .sectors) f 0) _ u (partner-taken p t u (sectorAt (p .sectors) f 0) (λ v. firstId p v image)
       (ap (takenBy p t u) (first-formed p u (Taken t) g image some-sector form′) ∙ taken-for p t u (sectorAt (p .sectors) g 0) hu)))
 
--- ---- the slot that is used for a sector: its own in the layout, whatever the choice
+-- ---- the slot that is used for a sector: its own in the layout
 its-sector : (p : Params) (t : Track) (state : State) (x s : ℕ) → (eqb (idFor p t state x .mark) 0xA1 && eqb (idFor p t state x .sector) s) ≡ eqb x s
 unfolding idFor
 its-sector p t state x s = refl
@@ -133,40 +133,32 @@ module _ (p : Params) (t : Track) (state : State) (f s : ℕ) (image : List ℕ)
   its-own : (k : ℕ) → k < p .sectors → holds p s (trackBytes p t image) k ≡ true → k ≡ slotOf (p .sectors) f s
   its-own k h e = sym (slot-sector (p .sectors) f k h) ∙ ap (slotOf (p .sectors) f) (eqb-true _ _ (sym (holds-formed p t state f s image k form h) ∙ e))
 
-  first-own : (o : Option ℕ) → firstBelow (holds p s (trackBytes p t image)) (p .sectors) ≡ o → o ≡ some (slotOf (p .sectors) f s)
-  first-own none e =
+  used-own : (o : Option ℕ) → slotUsed p s (trackBytes p t image) ≡ o → o ≡ some (slotOf (p .sectors) f s)
+  used-own none e =
       let k = slotOf (p .sectors) f s in
       let l = slot-lt (p .sectors) f s hs in
-      absurd (true≢false (sym (eq-eqb _ _ (sector-slot (p .sectors) f s hs)) ∙ sym (holds-formed p t state f s image k form l) ∙ first-none _ (p .sectors) e k l))
-  first-own (some k) e = let r = first-some _ (p .sectors) k e in ap some (its-own k (r .0) (r .1))
+      absurd (true≢false (sym (eq-eqb _ _ (sector-slot (p .sectors) f s hs)) ∙ sym (holds-formed p t state f s image k form l) ∙ unused p s (trackBytes p t image) e k l))
+  used-own (some k) e = let r = used-holds p s (trackBytes p t image) k e in ap some (its-own k (r .0) (r .1))
 
-  used-own : (choice : ℕ) (a b : Bool) → ltb choice (p .sectors) ≡ a → holds p s (trackBytes p t image) choice ≡ b
-      → pick (a && b) (some choice) (firstBelow (holds p s (trackBytes p t image)) (p .sectors)) ≡ some (slotOf (p .sectors) f s)
-  unfolding pick
-  used-own choice true true ea eb = ap some (its-own choice (ltb-true _ _ ea) eb)
-  used-own choice true false ea eb = first-own _ refl
-  used-own choice false b ea eb = first-own _ refl
-
-  pub used-formed : (choice : ℕ) → slotUsed choice p s (trackBytes p t image) ≡ some (slotOf (p .sectors) f s)
-  unfolding slotUsed
-  used-formed choice = used-own choice _ _ refl refl
+  pub used-formed : slotUsed p s (trackBytes p t image) ≡ some (slotOf (p .sectors) f s)
+  used-formed = used-own _ refl
 
 -- ---- what is formatted is found: a sound track's sector in its layout slot, a moved track's on its partner
-module _ (p : Params) (t : Track) (f s : ℕ) (image : List ℕ) (some-sector : 0 < p .sectors) (hs : s < p .sectors) (choice : ℕ) where
-  pub found-sound : Formed p t Sound f image → sectorFound choice p t s image ≡ Slot t (slotOf (p .sectors) f s)
+module _ (p : Params) (t : Track) (f s : ℕ) (image : List ℕ) (some-sector : 0 < p .sectors) (hs : s < p .sectors) where
+  pub found-sound : Formed p t Sound f image → sectorFound p t s image ≡ Slot t (slotOf (p .sectors) f s)
   unfolding sectorFound sectorFrom sectorIn
-  found-sound form = rw (where-sound p t f image some-sector form, used-formed p t Sound f s image form hs choice)
+  found-sound form = rw (where-sound p t f image some-sector form, used-formed p t Sound f s image form hs)
 
   pub found-moved : (u : Track) (g : ℕ) → u .0 < trackCount p → Formed p t (Moved u) g image → Formed p u (Taken t) f image
-      → sectorFound choice p t s image ≡ Slot u (slotOf (p .sectors) f s)
+      → sectorFound p t s image ≡ Slot u (slotOf (p .sectors) f s)
   unfolding sectorFound sectorFrom sectorIn
-  found-moved u g hu form form′ = rw (where-moved p t g image some-sector u f hu form form′, used-formed p u (Taken t) f s image form′ hs choice)
+  found-moved u g hu form form′ = rw (where-moved p t g image some-sector u f hu form form′, used-formed p u (Taken t) f s image form′ hs)
 
-  pub found-bad : Formed p t Bad f image → sectorFound choice p t s image ≡ Fault 0x19
+  pub found-bad : Formed p t Bad f image → sectorFound p t s image ≡ Fault 0x19
   unfolding sectorFound sectorFrom
   found-bad form = rw (where-bad p t f image some-sector form)
 
-  pub found-taken : (u : Track) → Formed p t (Taken u) f image → sectorFound choice p t s image ≡ Fault 0x1C
+  pub found-taken : (u : Track) → Formed p t (Taken u) f image → sectorFound p t s image ≡ Fault 0x1C
   unfolding sectorFound sectorFrom
   found-taken u form = rw (where-taken p t f image some-sector u form)
 

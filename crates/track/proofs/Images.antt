@@ -52,6 +52,11 @@ module _ (p : Params) (bytes : List ℕ) (l : length bytes ≡ trackSize p) wher
   pub slot-room : (k : ℕ) → k < p .sectors → k * slotSize p + slotSize p ≤ trackSize p
   slot-room k h = cell-in (slotSize p) k (p .sectors) h
 
+  -- a slot's data are D bytes
+  pub length-data : (k : ℕ) → k < p .sectors → length (slotData p k bytes) ≡ p .size
+  unfolding slotData
+  length-data k h = length-part (k * slotSize p + 8) (p .size) bytes (omega (arith, slot-room k h))
+
   pub data-of-slot : (k : ℕ) → part 8 (p .size) (slotBytes p k bytes) ≡ slotData p k bytes
   unfolding slotBytes slotData
   data-of-slot k = part-part (k * slotSize p) (slotSize p) 8 (p .size) bytes (omega arith)

@@ -3,11 +3,12 @@ pub mod Images
 pub mod Formats
 pub mod Sounds
 pub mod Finds
+pub mod Used
 pub mod Notes
-pub mod Runs
+pub mod Searched
+pub mod Alike
 pub mod Numbers
 pub mod Checks
 pub mod Pairs
-pub mod Choices
 pub mod Formed
 pub mod SameIds

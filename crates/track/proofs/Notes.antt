@@ -22,8 +22,8 @@ use Rattle.geometry.specs.Params.{slotSize}
 use Rattle.track.specs.declared.id.Id.{Id}
 use Rattle.track.specs.Id.{idIn}
 use Rattle.track.specs.Image.{slotId}
-use Rattle.track.specs.Find.{holds}
-use Rattle.track.specs.Run.{firstSlot, noteOf, noted, Noted}
+use Rattle.track.specs.Find.{holds, slotUsed}
+use Rattle.track.specs.Search.{noteOf, noted, Noted}
 use Rattle.track.proofs.Finds.{id-lent, place-more}
 
 -- ---- the first of c + d numbers is the first of the c, or else the first of the d behind them
@@ -127,17 +127,17 @@ module _ (p : Params) (bytes slots : List ℕ) (k : ℕ) (w : Noted p bytes slot
       ∙ rw (w q hq, first-next (holds p q bytes) k) (note-next k (eqb (id .mark) 0xA1) (eqb (id .sector) q) _ (λ j e. omega (arith, first-some _ k j e .0)))
 
   -- one that is noted is the first of all
-  pub noted-found : (s : ℕ) → s < 32 → k ≤ p .sectors → (getD slots s 0xFF ≡ 0xFF → ⊥) → getD slots s 0xFF ≡ noteOf (firstSlot p s bytes)
-  unfolding Noted firstSlot noteOf
+  pub noted-found : (s : ℕ) → s < 32 → k ≤ p .sectors → (getD slots s 0xFF ≡ 0xFF → ⊥) → getD slots s 0xFF ≡ noteOf (slotUsed p s bytes)
+  unfolding Noted slotUsed noteOf
   noted-found s hs h ne = by (firstBelow (holds p s bytes) k) refl
     where
-      by : (o : Option ℕ) → firstBelow (holds p s bytes) k ≡ o → getD slots s 0xFF ≡ noteOf (firstSlot p s bytes)
+      by : (o : Option ℕ) → firstBelow (holds p s bytes) k ≡ o → getD slots s 0xFF ≡ noteOf (slotUsed p s bytes)
       by none e = absurd (ne (w s hs ∙ ap noteOf e))
       by (some i) e = w s hs ∙ rw (e, first-kept _ k (p .sectors) i h e)
 
   -- after all slots what is noted is the first of all, or none
-  pub noted-all : (s : ℕ) → s < 32 → k ≡ p .sectors → getD slots s 0xFF ≡ noteOf (firstSlot p s bytes)
-  unfolding Noted firstSlot
+  pub noted-all : (s : ℕ) → s < 32 → k ≡ p .sectors → getD slots s 0xFF ≡ noteOf (slotUsed p s bytes)
+  unfolding Noted slotUsed
   noted-all s hs e = w s hs ∙ ap (λ (n : ℕ). noteOf (firstBelow (holds p s bytes) n)) e
 
 -- ---- the loop
@@ -178,17 +178,18 @@ looked-more size n bytes slots more at k w e h m = record {
       rw z (noted-more p bytes slots k (w .notes p es) (w .long) (omega arith));
 }
 
--- what is answered
-abbrev Answered : Params → (bytes slots : List ℕ) → (s r : ℕ) → Type 0
-Answered p bytes slots s r = (length slots ≡ 32) × (r ≤ p .sectors) × Noted p bytes slots r × (getD slots s 0xFF ≡ noteOf (firstSlot p s bytes))
+-- what look_for leaves: slots are noted up to `looked`, and sector s is among them if any slot holds it
+abbrev pub Found : Params → (bytes slots : List ℕ) → (looked s : ℕ) → Type 0
+Found p bytes slots looked s =
+    (length slots ≡ 32) × (looked ≤ p .sectors) × Noted p bytes slots looked × (getD slots s 0xFF ≡ noteOf (slotUsed p s bytes))
 
 module _ (p : Params) (size : ℕ) (bytes slots : List ℕ) (at k : ℕ) (es : size ≡ slotSize p) (w : Looked size (p .sectors) bytes slots at k) (s : ℕ) (hs : s < 32) where
   -- a slot is noted for s
-  pub looked-found : (getD slots s 0 ≡ 0xFF → ⊥) → Answered p bytes slots s k
+  pub looked-found : (getD slots s 0 ≡ 0xFF → ⊥) → Found p bytes slots k s
   looked-found ne =
       let z : getD slots s 0 ≡ getD slots s 0xFF = getD-any slots s 0 0xFF (omega (arith, w .long)) in
       (w .long, w .most, w .notes p es, noted-found p bytes slots k (w .notes p es) s hs (w .most) (λ e. ne (z ∙ e)))
 
   -- no slot is left
-  pub looked-all : p .sectors ≤ k → Answered p bytes slots s k
+  pub looked-all : p .sectors ≤ k → Found p bytes slots k s
   looked-all h = (w .long, w .most, w .notes p es, noted-all p bytes slots k (w .notes p es) s hs (omega (arith, w .most)))

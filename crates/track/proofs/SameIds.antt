@@ -1,17 +1,10 @@
 -- Finding depends on ID bytes only; so a write of data, which keeps every ID, changes no outcome of finding.
-use mathlib.Core.Path.{_≡_, refl, sym, ap, ap₂, _∙_}
-use mathlib.Core.Bool.{Bool, true, false, _&&_}
-use mathlib.Core.Option.{Option, some}
+use mathlib.Core.Path.{_≡_, refl, sym, ap, _∙_}
 use mathlib.Core.List.{List}
 use Prim.Native.Nat.{ℕ, _≤_, _<_}
 use native.Mathlib.Omega.{arith}
 use native.Mathlib.Decide.{decLt, ℕ-discrete}
 use lib.ListN.{length}
-use lib.Dec.{ltb}
-use borrow.Author.Tests.{ltb-true}
-use Rattle.base.specs.Pick.{pick}
-use Rattle.base.specs.First.{firstBelow}
-use Rattle.base.proofs.Firsts.{first-same}
 use Rattle.geometry.specs.declared.params.Params.{Params}
 use Rattle.geometry.specs.declared.params.Track.{Track}
 use Rattle.geometry.specs.Params.{trackCount, trackSize, imageLength}
@@ -20,8 +13,9 @@ use Rattle.track.specs.declared.find.Where.{Where}
 use Rattle.track.specs.declared.find.Where.the-variants.{On, Off}
 use Rattle.track.specs.Id.{track, idIn, ownId}
 use Rattle.track.specs.Image.{trackBytes, withTrack, slotId, withData, firstId}
-use Rattle.track.specs.Find.{takenBy, whereBy, whereOf, holds, slotUsed, sectorIn, sectorFrom, sectorFound}
+use Rattle.track.specs.Find.{takenBy, whereBy, whereOf, slotUsed, sectorIn, sectorFrom, sectorFound}
 use Rattle.track.proofs.Images.{length-track, track-same, track-other, length-with-data, id-kept}
+use Rattle.track.proofs.Alike.{slot-alike}
 use Rattle.track.proofs.Finds.{taken-past, where-in}
 
 -- two images with the same ID in every slot of every track
@@ -48,31 +42,19 @@ module _ (p : Params) (a b : List ℕ) (some-sector : 0 < p .sectors) (same : Sa
       ap (λ (id : Id). whereBy t id (ownId p t id) (takenBy p t (id .partner) (firstId p (id .partner) a))) e
       ∙ ap (whereBy t (firstId p t b) (ownId p t (firstId p t b))) (taken-same t (firstId p t b .partner))
 
-  holds-same : (s : ℕ) (u : Track) (k : ℕ) → u .0 < trackCount p → k < p .sectors → holds p s (trackBytes p u a) k ≡ holds p s (trackBytes p u b) k
-  unfolding holds
-  holds-same s u k h l = rw (same .ids u k h l)
+  used-same : (s : ℕ) (u : Track) → u .0 < trackCount p → slotUsed p s (trackBytes p u a) ≡ slotUsed p s (trackBytes p u b)
+  used-same s u h = slot-alike p (trackBytes p u a) (trackBytes p u b) (λ k hk. same .ids u k h hk) s
 
-  used-same : (choice s : ℕ) (u : Track) → u .0 < trackCount p → slotUsed choice p s (trackBytes p u a) ≡ slotUsed choice p s (trackBytes p u b)
-  unfolding slotUsed firstBelow
-  used-same choice s u h =
-      ap₂ {C = Option ℕ} (λ (x : Bool) (o : Option ℕ). pick x (some choice) o)
-      (guarded (ltb choice (p .sectors)) refl)
-      (first-same (holds p s (trackBytes p u a)) (holds p s (trackBytes p u b)) 0 (p .sectors) (λ i m. holds-same s u i h (omega arith)))
-    where
-      guarded : (x : Bool) → ltb choice (p .sectors) ≡ x → (x && holds p s (trackBytes p u a) choice) ≡ (x && holds p s (trackBytes p u b) choice)
-      guarded true e = holds-same s u choice h (ltb-true _ _ e)
-      guarded false e = refl
-
-  from-same : (choice s : ℕ) (w : Where) → ((u : Track) → w ≡ On u → u .0 < trackCount p) → sectorFrom choice p s a w ≡ sectorFrom choice p s b w
+  from-same : (s : ℕ) (w : Where) → ((u : Track) → w ≡ On u → u .0 < trackCount p) → sectorFrom p s a w ≡ sectorFrom p s b w
   unfolding sectorFrom
-  from-same choice s (Off code) h = refl
-  from-same choice s (On u) h = ap (sectorIn u) (used-same choice s u (h u refl))
+  from-same s (Off code) h = refl
+  from-same s (On u) h = ap (sectorIn u) (used-same s u (h u refl))
 
-  pub found-same : (choice s : ℕ) (t : Track) → t .0 < trackCount p → sectorFound choice p t s a ≡ sectorFound choice p t s b
+  pub found-same : (s : ℕ) (t : Track) → t .0 < trackCount p → sectorFound p t s a ≡ sectorFound p t s b
   unfolding sectorFound
-  found-same choice s t h =
-      from-same choice s (whereOf p t a) (where-in p t a (whereOf p t a) refl h)
-      ∙ ap (sectorFrom choice p s b) (where-same t h)
+  found-same s t h =
+      from-same s (whereOf p t a) (where-in p t a (whereOf p t a) refl h)
+      ∙ ap (sectorFrom p s b) (where-same t h)
 
 -- a write of data keeps every ID
 pub data-keeps : (p : Params) (image : List ℕ) (u : Track) (k : ℕ) (sector : List ℕ) → imageLength p ≤ length image → u .0 < trackCount p → k < p .sectors → length sector ≡ p .size

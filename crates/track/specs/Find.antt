@@ -42,10 +42,9 @@ whereOf p t image =
 unfoldable pub holds : Params → (s : ℕ) → (bytes : List ℕ) → (k : ℕ) → Bool
 holds p s bytes k = eqb (idIn (slotId p k bytes) .mark) 0xA1 && eqb (idIn (slotId p k bytes) .sector) s
 
--- Any slot that holds s may be used, and this choice is the only free one: `choice` says which, where it does hold s;
--- else the first one is used that does.
-unfoldable pub slotUsed : (choice : ℕ) → Params → (s : ℕ) → (bytes : List ℕ) → Option ℕ
-slotUsed choice p s bytes = pick (ltb choice (p .sectors) && holds p s bytes choice) (some choice) (firstBelow (holds p s bytes) (p .sectors))
+-- Of the slots that hold s the one nearest the track's start is used (request E2).
+unfoldable pub slotUsed : Params → (s : ℕ) → (bytes : List ℕ) → Option ℕ
+slotUsed p s bytes = firstBelow (holds p s bytes) (p .sectors)
 
 -- The track and the slot that a sector is in, or an error's code.
 pub data Sector : Type 0 where
@@ -57,10 +56,10 @@ unfoldable pub sectorIn : Track → Option ℕ → Sector
 sectorIn u none = Fault 0x14
 sectorIn u (some k) = Slot u k
 
-unfoldable pub sectorFrom : (choice : ℕ) → Params → (s : ℕ) → List ℕ → Where → Sector
-sectorFrom choice p s image (Off code) = Fault code
-sectorFrom choice p s image (On u) = sectorIn u (slotUsed choice p s (trackBytes p u image))
+unfoldable pub sectorFrom : Params → (s : ℕ) → List ℕ → Where → Sector
+sectorFrom p s image (Off code) = Fault code
+sectorFrom p s image (On u) = sectorIn u (slotUsed p s (trackBytes p u image))
 
 -- Finding sector s of track t: the track and the slot that it is in, or the error.
-unfoldable pub sectorFound : (choice : ℕ) → Params → Track → (s : ℕ) → List ℕ → Sector
-sectorFound choice p t s image = sectorFrom choice p s image (whereOf p t image)
+unfoldable pub sectorFound : Params → Track → (s : ℕ) → List ℕ → Sector
+sectorFound p t s image = sectorFrom p s image (whereOf p t image)

@@ -1,8 +1,8 @@
-// Tracks and slots of an image: formatted, found, checked, read and written. The library below the commands.
+// Tracks of an image: formatted, checked, and their sectors found. The library below the commands.
 pub mod check;
 pub mod find;
 pub mod format;
 pub mod id;
 pub mod pair;
-pub mod run;
+pub mod search;
 pub mod sector;

@@ -1,7 +1,7 @@
 -- `lanthewg_execute` meets its contract: a walk of its MIR, by hand. The borrow of the record is opened, and the whole record is copied and
 -- passed to `execute` with the other parameters. The record that comes back is stored in its place, and the answer is the result.
 -- All that is known of `execute` is its contract, which says the same of a record by value. The record is one machine value throughout:
--- nothing here depends on its fields, nor on what `Executed` means.
+-- nothing here depends on its fields, nor on what a call leaves.
 use Rattle.walks.proofs.Kit.{_≡_, refl, [], _∷_, URA, named, SProp, id⊢, Memory, Routine, Heap, Calls, Loops, WpFn, Atoms, Fun, givenOf}
 use Rattle.walks.proofs.Kit.{Contract, Triple, Lasts, FmC, fmOf, Given, Item, raw, _$_, _∵_, !, qed, by, move, drop, rewrite, fsplit, fjoin}
 use Rattle.walks.proofs.Kit.{look, init, stop, from, of-opd, and-then, no-more, land, returns, calls-at}

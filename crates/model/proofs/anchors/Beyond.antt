@@ -5,7 +5,7 @@ use mathlib.Core.Path.{_≡_, refl, ap, subst, _∙_}
 use mathlib.Core.Bool.{Bool, true, false}
 use mathlib.Core.List.{List, _++_}
 use native.Mathlib.Omega.{arith}
-use lib.ListN.{length, drop}
+use lib.ListN.{length}
 use borrow.Author.Tests.{ltb-false}
 use Rattle.base.specs.Pick.{pick}
 use Rattle.base.specs.Part.{part}
@@ -17,8 +17,10 @@ use Rattle.geometry.specs.Params.{Within, trackCount, imageLength, trackOf, las
 use Rattle.geometry.specs.Config.{settingOf, labelRest}
 use Rattle.geometry.proofs.Settings.{setting-within, setting-ten}
 use Rattle.geometry.proofs.Sizes.{sectors-some}
+use Rattle.geometry.proofs.Addresses.{track-in}
 use Rattle.track.specs.Find.{Sector, Slot, Fault}
 use Rattle.track.specs.declared.id.State.{State}
+use Rattle.sectors.specs.Transfer.{Transfer, begun, ended, readSlot, onward, found, reading, writing}
 use Rattle.model.specs.declared.block.Block.{Block}
 use Rattle.model.specs.declared.table.Command.{Command}
 use Rattle.model.specs.declared.table.Command.the-variants.{TestReady, Recalibrate, RequestSense, FormatDrive, CheckTrack, FormatTrack, FormatBadTrack, Read, Write, Seek, AssignAlternate, WriteBuffer, ReadBuffer, Initialize, Unknown}
@@ -31,26 +33,24 @@ use Rattle.model.specs.Block.{countOf, alternateOf}
 use Rattle.model.specs.Table.{entryOf}
 use Rattle.model.specs.Checks.{bytesOf, sizeIn, judged, judge}
 use Rattle.model.specs.Record.{driveAt, settingIn, Effect, refused, failed, good, unless}
-use Rattle.model.specs.Transfer.{Transfer, begun, ended, readSlot, onward, found, reading, writing, transferred}
 use Rattle.model.specs.Commands.{requestSense, fillOf, driveFormatted, formatDrive, checkTrack, formatTrack}
-use Rattle.model.specs.Commands.{read, write, assignTests, assignAlternate, initializedBy, initialize, onDisk, carryOut}
+use Rattle.model.specs.Commands.{transferred, read, write, assignTests, assignAlternate, initializedBy, initialize, onDisk, carryOut}
 use Rattle.model.specs.Engine.{viewOf, obey}
 use Rattle.model.proofs.Checked.{opcodeFor, row-of, Cleared, cleared, track-cleared, count-cleared}
 use Rattle.model.proofs.Judged.{passed-on}
-use Rattle.model.proofs.Addresses.{track-in}
 use Rattle.model.proofs.Outside.{Outside, outside-self, outside-less, plain-most, fill-most}
 use Rattle.model.proofs.Outside.{made-outside, assigned-outside, drive-outside, drive-label}
 use Rattle.model.proofs.anchors.Written.{writes}
 use Rattle.model.proofs.Current.{setting-known}
 
 -- ---- A Read changes nothing
-read-image : (n a : ℕ) (choices : List ℕ) (p : Params) (x : Transfer) → reading choices p n a x .image ≡ x .image
+read-image : (n a : ℕ) (p : Params) (x : Transfer) → reading p n a x .image ≡ x .image
 unfolding reading onward ended readSlot
-read-image zero a choices p x = refl
-read-image (suc n) a choices p x = by (found choices p a (x .image)) (λ y. read-image n (suc a) (drop 1 choices) p y)
+read-image zero a p x = refl
+read-image (suc n) a p x = by (found p a (x .image)) (λ y. read-image n (suc a) p y)
   where
-    by : (s : Sector) → ((y : Transfer) → reading (drop 1 choices) p n (suc a) y .image ≡ y .image)
-        → onward x (λ t k. reading (drop 1 choices) p n (suc a) (readSlot p x t k)) s .image ≡ x .image
+    by : (s : Sector) → ((y : Transfer) → reading p n (suc a) y .image ≡ y .image)
+        → onward x (λ t k. reading p n (suc a) (readSlot p x t k)) s .image ≡ x .image
     by (Fault code) rest = refl
     by (Slot t k) rest = rest (readSlot p x t k)
 
@@ -126,7 +126,7 @@ module _ (b : Block) (given : List ℕ) (area : ℕ) (c : Controller) (image : L
       format-label = (format-outside 0 refl .len, drive-label b p w image fits _ _ ten (fill-most b p c) format-in)
 
   -- by cases; `low` is at most 16, and 0 for Format Drive
-  module _ (choices : List ℕ) (low : ℕ) (front : low ≤ 16) (free : entryOf (b .opcode) .command ≡ FormatDrive → low ≡ 0) where
+  module _ (low : ℕ) (front : low ≤ 16) (free : entryOf (b .opcode) .command ≡ FormatDrive → low ≡ 0) where
     abbrev Leaves : Setting → List ℕ → Type 0
     Leaves s after = Outside low s image after
 
@@ -143,7 +143,7 @@ module _ (b : Block) (given : List ℕ) (area : ℕ) (c : Controller) (image : L
     own p v e = unless-left (Leaves (Valid p)) v b c image e (outside-self low (Valid p) image)
 
     carried-outside : (command : Command) → entryOf (b .opcode) .command ≡ command
-        → let s = settingIn entry (length image) in Leaves s (carryOut choices b s given c image command .image)
+        → let s = settingIn entry (length image) in Leaves s (carryOut b s given c image command .image)
     unfolding carryOut requestSense formatDrive checkTrack formatTrack read write assignAlternate initialize entryOf opcodeFor
         bytesOf sizeIn good failed begun
     carried-outside TestReady is = outside-self low _ image
@@ -158,11 +158,11 @@ module _ (b : Block) (given : List ℕ) (area : ℕ) (c : Controller) (image : L
         disk _ _ (λ p e. own p _ _ (λ ok.
         made-outside low front b p (w p e) image (fits p e) _ _ _ (track-cleared (w p e) (clear p e FormatBadTrack is) refl refl) (plain-most p)))
     carried-outside Read is =
-        disk _ _ (λ p e. same _ _ (transferred-image b c _ ∙ read-image (countOf b) (b .address .0) choices p (begun image)))
+        disk _ _ (λ p e. same _ _ (transferred-image b c _ ∙ read-image (countOf b) (b .address .0) p (begun image)))
     carried-outside Write is =
         disk _ _ (λ p e.
-        rw (transferred-image b c (writing choices p (countOf b) (b .address .0) given (begun image)))
-        (outside-less low _ 16 front _ _ (writes p (w p e) (countOf b) (b .address .0) choices given (begun image) (fits p e)
+        rw (transferred-image b c (writing p (countOf b) (b .address .0) given (begun image)))
+        (outside-less low _ 16 front _ _ (writes p (w p e) (countOf b) (b .address .0) given (begun image) (fits p e)
         (count-cleared (w p e) (clear p e Write is) refl refl) (clear p e Write is .enough) .outside)))
     carried-outside Seek is = outside-self low _ image
     carried-outside AssignAlternate is =
@@ -176,10 +176,10 @@ module _ (b : Block) (given : List ℕ) (area : ℕ) (c : Controller) (image : L
     carried-outside Unknown is = outside-self low _ image
 
 -- ---- Any command, on any image
-pub outside-kept : (choices : List ℕ) (b : Block) (given : List ℕ) (area : ℕ) (c : Controller) (image : List ℕ)
+pub outside-kept : (b : Block) (given : List ℕ) (area : ℕ) (c : Controller) (image : List ℕ)
     → (low : ℕ) → low ≤ 16 → (entryOf (b .opcode) .command ≡ FormatDrive → low ≡ 0)
-    → Outside low (settingIn (driveAt c (b .drive)) (length image)) image (obey choices b given area c image .image)
+    → Outside low (settingIn (driveAt c (b .drive)) (length image)) image (obey b given area c image .image)
 unfolding obey
-outside-kept choices b given area c image low front free =
+outside-kept b given area c image low front free =
     unless-left (Outside low (settingIn (driveAt c (b .drive)) (length image)) image) _ b c image _ (outside-self low _ image)
-    (λ passed. carried-outside b given area c image passed choices low front free (entryOf (b .opcode) .command) refl)
+    (λ passed. carried-outside b given area c image passed low front free (entryOf (b .opcode) .command) refl)

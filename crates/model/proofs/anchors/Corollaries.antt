@@ -5,7 +5,7 @@ use mathlib.Core.Path.{_≡_, refl, sym, ap, ap₂, _∙_}
 use mathlib.Core.Bool.{Bool, true, false, not, true≢false}
 use mathlib.Core.List.{List, [], _∷_, map}
 use native.Mathlib.Omega.{arith}
-use lib.ListN.{length, take, drop, getD, replicate, length-replicate}
+use lib.ListN.{length, take, getD, replicate, length-replicate}
 use lib.Dec.{eqb}
 use borrow.Author.Tests.{le-ltb, ne-eqb}
 use Rattle.base.specs.Pick.{pick}
@@ -17,21 +17,23 @@ use Rattle.geometry.specs.declared.config.Setting.{Setting}
 use Rattle.geometry.specs.declared.config.Setting.the-variants.{Valid, Invalid}
 use Rattle.geometry.specs.Params.{Within, imageLength, trackCount}
 use Rattle.geometry.specs.Config.{settingBy, settingOf, labelSetting, labelHolds}
-use Rattle.track.specs.Find.{Slot}
+use Rattle.track.specs.Find.{Slot, holds}
 use Rattle.track.specs.Image.{trackBytes, slotId, slotData}
+use Rattle.sectors.proofs.Founds.{found-first}
+use Rattle.sectors.specs.Transfer.{begun, found, writing}
 use Rattle.model.specs.declared.block.Block.{Block}
 use Rattle.model.specs.declared.table.Command.{Command}
 use Rattle.model.specs.declared.table.Command.the-variants.{FormatDrive, Initialize}
+use Rattle.model.specs.declared.record.Drive.{Drive}
 use Rattle.model.specs.declared.record.Controller.{Controller}
 use Rattle.model.specs.Block.{blockOf}
 use Rattle.model.specs.Table.{entryOf}
-use Rattle.model.specs.Calls.{Call, reset, command, Reply}
+use Rattle.model.specs.Calls.{Call, reset, command}
 use Rattle.model.specs.Record.{driveAt, settingIn, Effect}
-use Rattle.model.specs.Transfer.{begun, found, writing}
 use Rattle.model.specs.Commands.{initialize, carryOut}
-use Rattle.model.specs.Engine.{Result, obey, imageOf, left, execute, Executed, resetOf}
+use Rattle.model.specs.Engine.{Result, obey, imageOf, left, execute}
 use Rattle.model.specs.Machine.{Machine, freshMachine}
-use Rattle.model.specs.Claim.{replies, atEnd, State, Order, Reset, Command as Ordered, fed, by-reset, by-execute, Runs, end, next}
+use Rattle.model.specs.Claim.{replies, atEnd, State, Order, Reset, Command as Ordered, fed, engineReplies, engineAtEnd}
 use Rattle.model.specs.Claim.{begin, beginMachine, Holds, Claim}
 use Rattle.model.proofs.Claimed.{claimed}
 use Rattle.model.proofs.anchors.Refusals.{unmoved, Answered, accepted, unchanged, all-answered, apart, images-kept}
@@ -41,13 +43,13 @@ use Rattle.model.proofs.anchors.PendingCalls.{from-fresh}
 use Rattle.model.proofs.anchors.Session.{brief, lengths, calls, answers, worked}
 
 -- ---- (a) Number 1, 2 or 3: status, message and counts 0, and controller, area and images as they were. There is no other number.
-module _ (choices : List ℕ) (c : Controller) (block given area image0 image1 : List ℕ) where
+module _ (c : Controller) (block given area image0 image1 : List ℕ) where
   abbrev result : Result
-  result = execute choices c block given area image0 image1
+  result = execute c block given area image0 image1
 
   refusal : 1 ≤ result .outcome .answer .number
       → (result .outcome .answer .number ≤ 3) × (result ≡ unmoved c area image0 image1 (result .outcome .answer .number))
-  refusal some = by (all-answered choices c block given area image0 image1)
+  refusal some = by (all-answered c block given area image0 image1)
     where
       by : Answered c area image0 image1 result
           → (result .outcome .answer .number ≤ 3) × (result ≡ unmoved c area image0 image1 (result .outcome .answer .number))
@@ -55,27 +57,27 @@ module _ (choices : List ℕ) (c : Controller) (block given area image0 image1 :
       by (unchanged number least most is) = rw is (most, refl)
 
 -- ---- (b) Bytes past the image length that the parameters in force give stay, whatever the command, and so does the image's length
-beyond : (choices : List ℕ) (b : Block) (given : List ℕ) (area : ℕ) (c : Controller) (image : List ℕ) (p : Params)
+beyond : (b : Block) (given : List ℕ) (area : ℕ) (c : Controller) (image : List ℕ) (p : Params)
     → settingIn (driveAt c (b .drive)) (length image) ≡ Valid p
-    → (length (obey choices b given area c image .image) ≡ length image)
-    × ((at size : ℕ) → imageLength p ≤ at → part at size (obey choices b given area c image .image) ≡ part at size image)
-beyond choices b given area c image p valid =
-    let kept = outside-kept choices b given area c image 0 (omega arith) (λ is. refl) in (kept .len, kept .past p valid)
+    → (length (obey b given area c image .image) ≡ length image)
+    × ((at size : ℕ) → imageLength p ≤ at → part at size (obey b given area c image .image) ≡ part at size image)
+beyond b given area c image p valid =
+    let kept = outside-kept b given area c image 0 (omega arith) (λ is. refl) in (kept .len, kept .past p valid)
 
 -- and without parameters all bytes stay
-untouched : (choices : List ℕ) (b : Block) (given : List ℕ) (area : ℕ) (c : Controller) (image : List ℕ)
-    → settingIn (driveAt c (b .drive)) (length image) ≡ Invalid → obey choices b given area c image .image ≡ image
-untouched choices b given area c image none = outside-kept choices b given area c image 0 (omega arith) (λ is. refl) .all none
+untouched : (b : Block) (given : List ℕ) (area : ℕ) (c : Controller) (image : List ℕ)
+    → settingIn (driveAt c (b .drive)) (length image) ≡ Invalid → obey b given area c image .image ≡ image
+untouched b given area c image none = outside-kept b given area c image 0 (omega arith) (λ is. refl) .all none
 
 -- ---- (c) A Write changes only the data bytes of slots that it found: the label, every ID and all other data stay
-module _ (p : Params) (w : Within p) (n a : ℕ) (choices given image : List ℕ) (fits : imageLength p ≤ length image)
+module _ (p : Params) (w : Within p) (n a : ℕ) (given image : List ℕ) (fits : imageLength p ≤ length image)
     (inside : a + n ≤ trackCount p * p .sectors) (enough : n * p .size ≤ length given) where
   abbrev after : List ℕ
-  after = writing choices p n a given (begun image) .image
+  after = writing p n a given (begun image) .image
 
-  all-written : Written p choices n a image after
+  all-written : Written p n a image after
   unfolding begun
-  all-written = writes p w n a choices given (begun image) fits inside enough
+  all-written = writes p w n a given (begun image) fits inside enough
 
   label-stays : part 0 16 after ≡ part 0 16 image
   label-stays = all-written .outside .below 0 16 (omega arith)
@@ -83,9 +85,16 @@ module _ (p : Params) (w : Within p) (n a : ℕ) (choices given image : List ℕ
   ids-stay : (t : Track) (k : ℕ) → t .0 < trackCount p → k < p .sectors → slotId p k (trackBytes p t after) ≡ slotId p k (trackBytes p t image)
   ids-stay = all-written .ids
 
-  data-stay : (t : Track) (k : ℕ) → t .0 < trackCount p → k < p .sectors → ((i : ℕ) → i < n → found (drop i choices) p (a + i) image ≡ Slot t k → ⊥)
+  data-stay : (t : Track) (k : ℕ) → t .0 < trackCount p → k < p .sectors → ((i : ℕ) → i < n → found p (a + i) image ≡ Slot t k → ⊥)
       → slotData p k (trackBytes p t after) ≡ slotData p k (trackBytes p t image)
   data-stay = all-written .others
+
+  -- of two slots that hold one sector number the second is not written
+  second-stays : (t : Track) (j k s : ℕ) → t .0 < trackCount p → j < k → k < p .sectors
+      → holds p s (trackBytes p t image) j ≡ true → holds p s (trackBytes p t image) k ≡ true
+      → slotData p k (trackBytes p t after) ≡ slotData p k (trackBytes p t image)
+  second-stays t j k s ht l hk first second =
+      data-stay t k ht hk (λ i li here. true≢false (sym first ∙ found-first p (a + i) image t k here j s l second))
 
 -- ---- (d) Initialize leaves the images
 left-kept : (drive : ℕ) (e : Effect) (area image0 image1 : List ℕ) → e .image ≡ imageOf drive image0 image1
@@ -99,36 +108,24 @@ unfolding pick
 picked-images true x y image0 image1 hx hy = hx
 picked-images false x y image0 image1 hx hy = hy
 
-module _ (choices : List ℕ) (c : Controller) (given : List ℕ) where
-  initialize-obeyed : (b : Block) (area : ℕ) (image : List ℕ) → b .opcode ≡ 0x11 → obey choices b given area c image .image ≡ image
+module _ (c : Controller) (given : List ℕ) where
+  initialize-obeyed : (b : Block) (area : ℕ) (image : List ℕ) → b .opcode ≡ 0x11 → obey b given area c image .image ≡ image
   unfolding obey entryOf carryOut initialize
   initialize-obeyed b area image is =
       let command : entryOf (b .opcode) .command ≡ Initialize = ap (λ (opcode : ℕ). entryOf opcode .command) is in
       unless-left (λ (after : List ℕ). after ≡ image) _ b c image _ refl (λ passed.
-      ap (λ (k : Command). carryOut choices b (settingIn (driveAt c (b .drive)) (length image)) given c image k .image) command
+      ap (λ (k : Command). carryOut b (settingIn (driveAt c (b .drive)) (length image)) given c image k .image) command
       ∙ initialized-image (settingOf (part 0 10 given) (length image)) b (part 0 10 given) c image)
 
   initialize-leaves : (block area image0 image1 : List ℕ) → blockOf block .opcode ≡ 0x11
-      → (execute choices c block given area image0 image1 .image0 ≡ image0) × (execute choices c block given area image0 image1 .image1 ≡ image1)
+      → (execute c block given area image0 image1 .image0 ≡ image0) × (execute c block given area image0 image1 .image1 ≡ image1)
   unfolding execute
   initialize-leaves block area image0 image1 is =
       let drive = blockOf block .drive in
       picked-images (eqb (length block) 6) _ _ image0 image1
       (left-kept drive _ area image0 image1 (initialize-obeyed (blockOf block) (length area) (imageOf drive image0 image1) is)) (refl, refl)
 
--- ---- (e) Every list of orders has a run, from every state
-run : (orders : List Order) (s : State) → (answers : List Reply) × (t : State) × Runs s orders answers t
-unfolding Executed
-run [] s = ([], s, end)
-run (Reset ∷ orders) s =
-    let rest = run orders (record { controller = resetOf (s .image0) (s .image1) .controller; image0 = s .image0; image1 = s .image1 }) in
-    (_, rest .1, next (by-reset (resetOf (s .image0) (s .image1)) refl) (rest .2))
-run (Ordered block given area ∷ orders) s =
-    let r = execute [] (s .controller) block given area (s .image0) (s .image1) in
-    let rest = run orders (record { controller = r .outcome .controller; image0 = r .image0; image1 = r .image1 }) in
-    (_, rest .1, next (by-execute r ([], refl)) (rest .2))
-
--- ---- (f) Zeros are no label: the claim holds for zero images of any lengths
+-- ---- (e) Zeros are no label: the claim holds for zero images of any lengths
 abbrev zeros : ℕ → List ℕ
 zeros n = replicate n 0
 
@@ -154,8 +151,9 @@ zero-label n =
     let none : getD (take 10 (zeros n)) 0 0 * 256 + getD (take 10 (zeros n)) 1 0 ≡ 0 = omega (arith, zero-byte n 0 10, zero-byte n 1 10) in
     picked-invalid _ _ (picked-invalid _ _ (rw none (no-cylinders _ _ _ _ _)))
 
-zero-claim : (n m : ℕ) (orders : List Order) (answers : List Reply) (s : State) → Runs (begin (zeros n) (zeros m)) orders answers s
-    → (answers ≡ replies (beginMachine (zeros n) (zeros m)) (map fed orders))
+zero-claim : (n m : ℕ) (orders : List Order)
+    → let s = engineAtEnd (begin (zeros n) (zeros m)) orders in
+    (engineReplies (begin (zeros n) (zeros m)) orders ≡ replies (beginMachine (zeros n) (zeros m)) (map fed orders))
     × ((drive : ℕ) → Holds (atEnd (beginMachine (zeros n) (zeros m)) (map fed orders) .disks drive) (imageOf drive (s .image0) (s .image1)))
 unfolding Claim
 zero-claim n m = claimed (zeros n) (zeros m) (zero-label n) (zero-label m)
@@ -184,19 +182,18 @@ fed-back (reset ∷ all) = ap {B = List Call} (λ cs. reset ∷ cs) (fed-back al
 fed-back (command block given area ∷ all) =
     ap₂ {C = List Call} (λ (n : ℕ) (cs : List Call). command block given n ∷ cs) (length-replicate area 0) (fed-back all)
 
-engine-worked : (orders : List Order) (said : List Reply) (s : State) → map fed orders ≡ calls → Runs (begin (zeros 25360) (zeros 25360)) orders said s
-    → map brief said ≡ answers
-engine-worked orders said s is runs =
-    ap (map brief) (zero-claim 25360 25360 orders said s runs .0
+engine-worked : (orders : List Order) → map fed orders ≡ calls → map brief (engineReplies (begin (zeros 25360) (zeros 25360)) orders) ≡ answers
+engine-worked orders is =
+    ap (map brief) (zero-claim 25360 25360 orders .0
     ∙ ap (replies (beginMachine (zeros 25360) (zeros 25360))) is ∙ ap (λ (m : Machine). replies m calls) (machine-same 25360)) ∙ worked
 
--- ---- (g) No command but Format Drive changes a byte of a label
-label-obeyed : (choices : List ℕ) (b : Block) (given : List ℕ) (area : ℕ) (c : Controller) (image : List ℕ)
-    → (entryOf (b .opcode) .command ≡ FormatDrive → ⊥) → part 0 16 (obey choices b given area c image .image) ≡ part 0 16 image
-label-obeyed choices b given area c image other =
-    outside-kept choices b given area c image 16 (omega arith) (λ is. absurd (other is)) .below 0 16 (omega arith)
+-- ---- (f) No command but Format Drive changes a byte of a label
+label-obeyed : (b : Block) (given : List ℕ) (area : ℕ) (c : Controller) (image : List ℕ)
+    → (entryOf (b .opcode) .command ≡ FormatDrive → ⊥) → part 0 16 (obey b given area c image .image) ≡ part 0 16 image
+label-obeyed b given area c image other =
+    outside-kept b given area c image 16 (omega arith) (λ is. absurd (other is)) .below 0 16 (omega arith)
 
-module _ (choices : List ℕ) (c : Controller) (block given area image0 image1 : List ℕ) where
+module _ (c : Controller) (block given area image0 image1 : List ℕ) where
   abbrev KeepsLabels : Result → Type 0
   KeepsLabels r = (part 0 16 (r .image0) ≡ part 0 16 image0) × (part 0 16 (r .image1) ≡ part 0 16 image1)
 
@@ -216,22 +213,28 @@ module _ (choices : List ℕ) (c : Controller) (block given area image0 image1 :
   six-labels true x y hx hy = hx
   six-labels false x y hx hy = hy
 
-  labels-left : (entryOf (blockOf block .opcode) .command ≡ FormatDrive → ⊥) → KeepsLabels (execute choices c block given area image0 image1)
+  labels-left : (entryOf (blockOf block .opcode) .command ≡ FormatDrive → ⊥) → KeepsLabels (execute c block given area image0 image1)
   unfolding execute
   labels-left other =
       let b = blockOf block in
       six-labels (eqb (length block) 6) _ _
-      (left-labels (b .drive) _ (label-obeyed choices b given (length area) c (imageOf (b .drive) image0 image1) other)) (refl, refl)
+      (left-labels (b .drive) _ (label-obeyed b given (length area) c (imageOf (b .drive) image0 image1) other)) (refl, refl)
 
--- ---- (h) In any list from a fresh controller, on any images, each call lent the controller and images that the call before left:
+-- ---- (g) In any list from a fresh controller, on any images, each call lent the controller and images that the call before left:
 -- parameters are pending exactly where the label does not hold them
-module _ (image0 image1 : List ℕ) (orders : List Order) (answers : List Reply) (s : State) (runs : Runs (begin image0 image1) orders answers s)
-    (drive : ℕ) (known : driveAt (s .controller) drive .known ≡ true) where
-  pending-labels : driveAt (s .controller) drive .pending
-      ≡ not (labelHolds (imageOf drive (s .image0) (s .image1)) (driveAt (s .controller) drive .config))
-  pending-labels = from-fresh image0 image1 runs .drives drive known
+module _ (image0 image1 : List ℕ) (orders : List Order) (drive : ℕ) where
+  abbrev atLast : State
+  atLast = engineAtEnd (begin image0 image1) orders
+
+  abbrev entry : Drive
+  entry = driveAt (atLast .controller) drive
+
+  abbrev image : List ℕ
+  image = imageOf drive (atLast .image0) (atLast .image1)
+
+  pending-labels : entry .known ≡ true → entry .pending ≡ not (labelHolds image (entry .config))
+  pending-labels known = from-fresh image0 image1 orders .drives drive known
 
   -- so a drive whose parameters are in force and not pending has those that its label holds
-  settled-labels : driveAt (s .controller) drive .pending ≡ false
-      → labelHolds (imageOf drive (s .image0) (s .image1)) (driveAt (s .controller) drive .config) ≡ true
-  settled-labels calm = not-false _ (sym pending-labels ∙ calm)
+  settled-labels : entry .known ≡ true → entry .pending ≡ false → labelHolds image (entry .config) ≡ true
+  settled-labels known calm = not-false _ (sym (pending-labels known) ∙ calm)

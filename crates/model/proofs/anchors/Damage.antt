@@ -1,13 +1,9 @@
 -- Damaged images: what finding and Check Track say, byte by byte. Two cylinders, two heads, three sectors of one byte.
-use Prim.Native.Nat.{ℕ, zero, suc, _+_, _*_}
+use Prim.Native.Nat.{ℕ, _+_, _*_}
 use mathlib.Core.Path.{_≡_, refl}
-use mathlib.Core.Logic.{_⊎_, inl, inr}
 use mathlib.Core.Bool.{Bool, true, false}
 use mathlib.Core.List.{List, [], _∷_, _++_, map}
 use lib.ListN.{set, replicate}
-use native.Mathlib.Omega.{arith}
-use lib.Dec.{ltb}
-use borrow.Author.Tests.{le-ltb}
 use Rattle.base.specs.Pick.{pick}
 use Rattle.base.specs.Part.{part, splice, rows}
 use Rattle.base.specs.First.{firstFrom, firstBelow, isSome, someBelow, everyBelow}
@@ -17,12 +13,12 @@ use Rattle.interleave.specs.Layout.{emptyFrom, put, place, laid, layoutOf}
 use Rattle.track.specs.declared.id.State.{State}
 use Rattle.track.specs.declared.id.State.the-variants.{Sound, Bad, Moved, Taken}
 use Rattle.track.specs.Id.{track, flagOf, partnerOf, idBytes, idIn, idFor, ownId}
-use Rattle.track.specs.Image.{trackBytes, withTrack, slotId, withData, firstId}
+use Rattle.track.specs.Image.{trackBytes, withTrack, slotId, slotData, withData, firstId}
 use Rattle.track.specs.Format.{withSector, slotMade, slotsMade, formatted}
 use Rattle.track.specs.Find.{Sector, Slot, Fault, takenBy, whereBy, whereOf, holds, slotUsed, sectorIn, sectorFrom, sectorFound}
 use Rattle.track.specs.Check.{idIs, idsAre, homeState, checkedOn, checkCode}
 use Rattle.track.specs.Pair.{stateBy, stateOf, oneBelow, splits, pairSplit}
-use Rattle.model.specs.Transfer.{begun, ended, writeSlot, onward, found, writing}
+use Rattle.sectors.specs.Transfer.{begun, ended, readSlot, writeSlot, onward, found, reading, writing}
 
 p : Params
 p = record { cylinders = 2; heads = 2; sectors = 3; size = 1 }
@@ -61,7 +57,7 @@ record Case : Type 0 where
 finds : List ℕ → (t s : ℕ) → Sector → Case
 finds image t s is = record { image = image; at = t; sector = s; is = is }
 
--- by slot 0, whatever the choice
+-- by slot 0
 faults : List Case
 faults =
     finds whole 1 0 (Fault 0x19)
@@ -96,7 +92,7 @@ faults =
     ∷ finds (hurt 3 0 7 0 whole) 2 1 (Fault 0x1E)
     ∷ []
 
--- by the search, here with choice 0; no other byte of an ID plays a part
+-- by the search; no other byte of an ID plays a part
 searched : List Case
 searched =
     finds whole 0 0 (Slot (track 0) 0)
@@ -114,50 +110,44 @@ searched =
     ∷ finds (hurt 0 2 1 1 (hurt 0 2 2 1 (hurt 0 2 3 1 (hurt 0 2 5 1 whole)))) 0 1 (Slot (track 0) 2)
     ∷ []
 
-found-in : (choice : ℕ) → List Case → List Sector
-found-in choice = map (λ (c : Case). sectorFound choice p (track (c .at)) (c .sector) (c .image))
+found-in : List Case → List Sector
+found-in = map (λ (c : Case). sectorFound p (track (c .at)) (c .sector) (c .image))
 
-finding : ((choice : ℕ) → found-in choice faults ≡ map (λ (c : Case). c .is) faults)
-    × (found-in 0 searched ≡ map (λ (c : Case). c .is) searched)
+finding : (found-in faults ≡ map (λ (c : Case). c .is) faults)
+    × (found-in searched ≡ map (λ (c : Case). c .is) searched)
 unfolding p slot whole hurt finds faults searched found-in sectorFound sectorFrom sectorIn slotUsed holds whereOf whereBy takenBy ownId firstId idIn
     trackBytes slotId part firstBelow firstFrom pick
-finding = (λ choice. refl, refl)
+finding = (refl, refl)
 
--- ---- Slots 0 and 2 both have sector 0: the choice may use either and nothing else, and no slot has sector 1
+-- ---- Slots 0 and 2 of track 0 both have sector 0, slots 1 and 2 of track 3, where track 2 is, sector 2
 doubled : List ℕ
-doubled = hurt 0 2 4 0 whole
+doubled = hurt 0 2 4 0 (hurt 3 2 4 2 whole)
 
-past-slots : (choice : ℕ) → ltb (suc (suc (suc choice))) 3 ≡ false
-past-slots choice = le-ltb (suc (suc (suc choice))) 3 (omega arith)
+-- the first of two, on the track itself and on the partner; the first that has A1h too; no slot has sector 1
+duplicates : List Case
+duplicates =
+    finds doubled 0 0 (Slot (track 0) 0)
+    ∷ finds doubled 2 2 (Slot (track 3) 1)
+    ∷ finds (hurt 3 1 0 0 doubled) 2 2 (Slot (track 3) 2)
+    ∷ finds doubled 0 1 (Fault 0x14)
+    ∷ finds doubled 2 1 (Fault 0x14)
+    ∷ []
 
-duplicates : ((choice : ℕ) → (sectorFound choice p (track 0) 0 doubled ≡ Slot (track 0) 0) ⊎ (sectorFound choice p (track 0) 0 doubled ≡ Slot (track 0) 2))
-    × (sectorFound 0 p (track 0) 0 doubled ≡ Slot (track 0) 0) × (sectorFound 2 p (track 0) 0 doubled ≡ Slot (track 0) 2)
-    × ((choice : ℕ) → sectorFound choice p (track 0) 1 doubled ≡ Fault 0x14)
-unfolding p slot whole hurt doubled sectorFound sectorFrom sectorIn slotUsed holds whereOf whereBy takenBy ownId firstId idIn
+finding-first : found-in duplicates ≡ map (λ (c : Case). c .is) duplicates
+unfolding p slot whole hurt doubled finds duplicates found-in sectorFound sectorFrom sectorIn slotUsed holds whereOf whereBy takenBy ownId firstId idIn
     trackBytes slotId part firstBelow firstFrom pick
-duplicates = (either, refl, refl, neither)
-  where
-    either : (choice : ℕ) → (sectorFound choice p (track 0) 0 doubled ≡ Slot (track 0) 0) ⊎ (sectorFound choice p (track 0) 0 doubled ≡ Slot (track 0) 2)
-    either zero = inl refl
-    either (suc zero) = inl refl
-    either (suc (suc zero)) = inr refl
-    either (suc (suc (suc choice))) = inl (rw (past-slots choice))
+finding-first = refl
 
-    neither : (choice : ℕ) → sectorFound choice p (track 0) 1 doubled ≡ Fault 0x14
-    neither zero = refl
-    neither (suc zero) = refl
-    neither (suc (suc zero)) = refl
-    neither (suc (suc (suc choice))) = rw (past-slots choice)
-
--- a Write changes the one slot that it used
-one-slot : (writing [] p 1 0 (7 ∷ []) (begun doubled) .image ≡ hurt 0 0 8 7 doubled)
-    × (writing (2 ∷ []) p 1 0 (7 ∷ []) (begun doubled) .image ≡ hurt 0 2 8 7 doubled)
+-- a Write changes the first of two, on the track itself and on the partner, and a Read then hands it over
+one-slot : (writing p 1 0 (7 ∷ []) (begun doubled) .image ≡ hurt 0 0 8 7 doubled)
+    × (writing p 1 8 (7 ∷ []) (begun doubled) .image ≡ hurt 3 1 8 7 doubled)
+    × (reading p 1 8 (begun (hurt 3 1 8 7 doubled)) .handed ≡ 7 ∷ [])
     -- up to a bad track; then a moved track's, on its partner
-    × (writing [] p 3 2 (7 ∷ 8 ∷ 9 ∷ []) (begun whole) .image ≡ hurt 0 1 8 7 whole)
-    × (writing [] p 3 6 (7 ∷ 8 ∷ 9 ∷ []) (begun whole) .image ≡ hurt 3 0 8 7 (hurt 3 1 8 9 (hurt 3 2 8 8 whole)))
+    × (writing p 3 2 (7 ∷ 8 ∷ 9 ∷ []) (begun whole) .image ≡ hurt 0 1 8 7 whole)
+    × (writing p 3 6 (7 ∷ 8 ∷ 9 ∷ []) (begun whole) .image ≡ hurt 3 0 8 7 (hurt 3 1 8 9 (hurt 3 2 8 8 whole)))
 unfolding p slot whole hurt doubled sectorFound sectorFrom sectorIn slotUsed holds whereOf whereBy takenBy ownId firstId idIn
-    trackBytes slotId part firstBelow firstFrom pick writing writeSlot onward found begun ended withTrack withData splice
-one-slot = (refl, refl, refl, refl)
+    trackBytes slotId part firstBelow firstFrom pick reading readSlot slotData writing writeSlot onward found begun ended withTrack withData splice
+one-slot = (refl, refl, refl, refl, refl)
 
 -- ---- Check Track with interleave 2
 check : (t : ℕ) → List ℕ → ℕ

@@ -90,10 +90,10 @@ kinds = assignTo two (track 3) (track 5) 1 (0x6C ∷ []) (freshDisk 232) .kind
 
 -- Seek on drive 1 to address 20h; then Request Sense
 sought : Result
-sought = execute [] controller (0x0B ∷ 0x20 ∷ 0 ∷ 0x20 ∷ 0 ∷ 0 ∷ []) [] [] [] (replicate 8464 0)
+sought = execute controller (0x0B ∷ 0x20 ∷ 0 ∷ 0x20 ∷ 0 ∷ 0 ∷ []) [] [] [] (replicate 8464 0)
 
 asked : Result
-asked = execute [] (sought .outcome .controller) (0x03 ∷ 0x20 ∷ 0 ∷ 0 ∷ 0 ∷ 0 ∷ []) [] (replicate 4 0xFF) (sought .image0) (sought .image1)
+asked = execute (sought .outcome .controller) (0x03 ∷ 0x20 ∷ 0 ∷ 0 ∷ 0 ∷ 0 ∷ []) [] (replicate 4 0xFF) (sought .image0) (sought .image1)
 
 examples :
     -- (1) n 17, f 2: sectors 8, 9 in slots 16, 1.

@@ -39,7 +39,7 @@ controller = record {
 -- the image that a command leaves of one that is EEh throughout, two bytes longer than the drive; address and control byte
 leaves : Command → (address control : ℕ) → (given : List ℕ) → List ℕ
 leaves command address control given =
-    carryOut [] (blockOf (0 ∷ 0 ∷ 0 ∷ address ∷ 1 ∷ control ∷ [])) (Valid p) given controller (replicate 72 0xEE) command .image
+    carryOut (blockOf (0 ∷ 0 ∷ 0 ∷ address ∷ 1 ∷ control ∷ [])) (Valid p) given controller (replicate 72 0xEE) command .image
 
 slot : (a b c d e f g h i : ℕ) → List ℕ
 slot a b c d e f g h i = a ∷ b ∷ c ∷ d ∷ e ∷ f ∷ g ∷ h ∷ i ∷ []

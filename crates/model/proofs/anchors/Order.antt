@@ -144,7 +144,7 @@ past-table = refl
 
 -- number 1 comes before all else: the block has not six bytes
 six-bytes :
-    (map (λ (n : ℕ). execute [] (fresh [] []) (replicate n 0xFF) [] [] [] [] .outcome .answer .number) (0 ∷ 5 ∷ 6 ∷ 7 ∷ 12 ∷ []) ≡ 1 ∷ 1 ∷ 0 ∷ 1 ∷ 1 ∷ [])
+    (map (λ (n : ℕ). execute (fresh [] []) (replicate n 0xFF) [] [] [] [] .outcome .answer .number) (0 ∷ 5 ∷ 6 ∷ 7 ∷ 12 ∷ []) ≡ 1 ∷ 1 ∷ 0 ∷ 1 ∷ 1 ∷ [])
     × (map (λ (n : ℕ). step (freshMachine (λ d. 0)) (command (replicate n 0xFF) [] 0) .0 .number) (0 ∷ 5 ∷ 6 ∷ 7 ∷ 12 ∷ []) ≡ 1 ∷ 1 ∷ 0 ∷ 1 ∷ 1 ∷ [])
 unfolding execute left obey unless failed failedOutcome bareOutcome fresh step freshMachine freshDisk ordered seen settingWith providing failing
     viewOf settingIn presentWith pick blockOf entryOf judge judged tests

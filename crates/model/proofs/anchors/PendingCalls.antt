@@ -2,7 +2,7 @@
 use Prim.Native.Nat.{ℕ, _<_}
 use mathlib.Core.Path.{_≡_, refl, sym, ap, _∙_}
 use mathlib.Core.Bool.{Bool, true, false, not}
-use mathlib.Core.List.{List, []}
+use mathlib.Core.List.{List, [], _∷_}
 use native.Mathlib.Omega.{arith}
 use native.Mathlib.Decide.{ℕ-discrete}
 use lib.ListN.{length}
@@ -23,13 +23,12 @@ use Rattle.model.specs.declared.verdict.Verdict.the-variants.{Refused, F
 use Rattle.model.specs.Block.{blockOf}
 use Rattle.model.specs.Table.{entryOf}
 use Rattle.model.specs.Checks.{judge}
-use Rattle.model.specs.Calls.{Reply}
 use Rattle.model.specs.Record.{driveAt, withDrive, settingIn, bareOutcome, failedOutcome, goodOutcome}
 use Rattle.model.specs.Record.{Effect, refused, failed, good, unless}
 use Rattle.model.specs.Commands.{settled, formatDrive, onDisk, carryOut}
-use Rattle.model.specs.Engine.{viewOf, obey, Result, imageOf, left, execute, Executed, resetOf}
+use Rattle.model.specs.Engine.{viewOf, obey, Result, imageOf, left, execute, resetOf}
 use Rattle.model.specs.Machine.{changed}
-use Rattle.model.specs.Claim.{State, Order, Calls, by-reset, by-execute, Runs, end, next, begin}
+use Rattle.model.specs.Claim.{State, Order, Reset, Command as Ordered, replied, called, engineAtEnd, begin}
 use Rattle.model.proofs.Ends.{changed-back}
 use Rattle.model.proofs.Checked.{opcodeFor, row-of}
 use Rattle.model.proofs.Current.{setting-known}
@@ -48,7 +47,7 @@ format? opcode = by (ℕ-discrete (opcodeFor (entryOf opcode .command)) 4)
     by (yes e) = yes (ap (λ (r : Entry). r .command) (row-of opcode ∙ ap entryOf e))
     by (no ne) = no (λ is. ne (ap opcodeFor is))
 
-module _ (choices : List ℕ) (b : Block) (given : List ℕ) (area : ℕ) (h : b .drive < 4) (c : Controller) (images : ℕ → List ℕ)
+module _ (b : Block) (given : List ℕ) (area : ℕ) (h : b .drive < 4) (c : Controller) (images : ℕ → List ℕ)
     (told : AllPendingByLabel c images) where
   abbrev entry : Drive
   entry = driveAt c (b .drive)
@@ -92,7 +91,7 @@ module _ (choices : List ℕ) (b : Block) (given : List ℕ) (area : ℕ) (h : b
       sense-by-label _ _ renewed (b .drive) h _
 
   carried-leaves : entryOf (b .opcode) .command ≡ FormatDrive → judge b (viewOf entry (length image)) (length given) area ≡ Passed
-      → (s : Setting) → settingIn entry (length image) ≡ s → Leaves (carryOut choices b s given c image FormatDrive)
+      → (s : Setting) → settingIn entry (length image) ≡ s → Leaves (carryOut b s given c image FormatDrive)
   unfolding carryOut onDisk formatDrive
   carried-leaves is passed Invalid e = failed-leaves 0x0A (b .address)
   carried-leaves is passed (Valid p) e =
@@ -100,12 +99,12 @@ module _ (choices : List ℕ) (b : Block) (given : List ℕ) (area : ℕ) (h : b
       let valid = ap (settingOf (entry .config)) (made .0) ∙ setting-known entry (length image) p e in
       unless-leaves _ _ (λ ok. format-leaves _ (format-holds (entry .config) _ p (made .1) valid))
 
-  obey-leaves : Dec (entryOf (b .opcode) .command ≡ FormatDrive) → Leaves (obey choices b given area c image)
+  obey-leaves : Dec (entryOf (b .opcode) .command ≡ FormatDrive) → Leaves (obey b given area c image)
   unfolding obey
   obey-leaves (yes is) = unless-leaves _ _ (λ passed. rw is (carried-leaves is passed _ refl))
   obey-leaves (no other) =
-      let made = obeyed-by-label _ other _ (obeyed choices b given area c image) in
-      let kept = outside-kept choices b given area c image 16 (omega arith) (λ is. absurd (other is)) in
+      let made = obeyed-by-label _ other _ (obeyed b given area c image) in
+      let kept = outside-kept b given area c image 16 (omega arith) (λ is. absurd (other is)) in
       image-by-label _ images made (b .drive) _ (λ known.
       made .drives (b .drive) known ∙ ap not (sym (holds-kept image _ _ (record { len = kept .len; label = kept .below }))))
 
@@ -116,34 +115,33 @@ AllIn s = AllPendingByLabel (s .controller) (λ d. imageOf d (s .image0) (s .ima
 abbrev stateOf : Result → State
 stateOf r = record { controller = r .outcome .controller; image0 = r .image0; image1 = r .image1 }
 
-module _ (choices : List ℕ) (c : Controller) (block given area image0 image1 : List ℕ) (told : AllPendingByLabel c (λ d. imageOf d image0 image1)) where
+module _ (c : Controller) (block given area image0 image1 : List ℕ) (told : AllPendingByLabel c (λ d. imageOf d image0 image1)) where
   six-by-label : (six : Bool) (r : Result) → AllIn (stateOf r)
       → AllIn (stateOf (pick six r (record { outcome = bareOutcome 1 c; area = area; image0 = image0; image1 = image1 })))
   unfolding pick bareOutcome
   six-by-label true r new = new
   six-by-label false r new = told
 
-  execute-by-label : AllIn (stateOf (execute choices c block given area image0 image1))
+  execute-by-label : AllIn (stateOf (execute c block given area image0 image1))
   unfolding execute left
   execute-by-label =
       let b = blockOf block in
-      let len = outside-kept choices b given (length area) c (imageOf (b .drive) image0 image1) 0 (omega arith) (λ is. refl) .len in
+      let len = outside-kept b given (length area) c (imageOf (b .drive) image0 image1) 0 (omega arith) (λ is. refl) .len in
       six-by-label (eqb (length block) 6) _
       (images-by-label _ _
-      (obey-leaves choices b given (length area) (drive-below block) c (λ d. imageOf d image0 image1) told (format? (b .opcode)))
+      (obey-leaves b given (length area) (drive-below block) c (λ d. imageOf d image0 image1) told (format? (b .opcode)))
       _ (left-images (b .drive) _ image0 image1 len))
 
-call-by-label : {s t : State} {order : Order} {reply : Reply} → Calls s order reply t → AllIn s → AllIn t
-unfolding Executed resetOf bareOutcome
-call-by-label (by-reset {s} outcome is) told = rw is (fresh-by-label (s .image0) (s .image1))
-call-by-label (by-execute {s} {block} {given} {area} result executed) told =
-    rw (executed .1) (execute-by-label (executed .0) (s .controller) block given area (s .image0) (s .image1) told)
+call-by-label : (s : State) (order : Order) → AllIn s → AllIn (called s order .1)
+unfolding called replied resetOf bareOutcome
+call-by-label s Reset told = fresh-by-label (s .image0) (s .image1)
+call-by-label s (Ordered block given area) told = execute-by-label (s .controller) block given area (s .image0) (s .image1) told
 
-run-by-label : {s t : State} {orders : List Order} {answers : List Reply} → Runs s orders answers t → AllIn s → AllIn t
-run-by-label end told = told
-run-by-label (next call rest) told = run-by-label rest (call-by-label call told)
+run-by-label : (orders : List Order) (s : State) → AllIn s → AllIn (engineAtEnd s orders)
+unfolding engineAtEnd
+run-by-label [] s told = told
+run-by-label (order ∷ orders) s told = run-by-label orders (called s order .1) (call-by-label s order told)
 
-pub from-fresh : (image0 image1 : List ℕ) {orders : List Order} {answers : List Reply} {s : State} → Runs (begin image0 image1) orders answers s
-    → AllIn s
+pub from-fresh : (image0 image1 : List ℕ) (orders : List Order) → AllIn (engineAtEnd (begin image0 image1) orders)
 unfolding begin
-from-fresh image0 image1 runs = run-by-label runs (fresh-by-label image0 image1)
+from-fresh image0 image1 orders = run-by-label orders _ (fresh-by-label image0 image1)

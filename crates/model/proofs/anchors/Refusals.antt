@@ -14,6 +14,7 @@ use Rattle.geometry.specs.declared.params.Params.{Params}
 use Rattle.geometry.specs.declared.config.Setting.{Setting}
 use Rattle.geometry.specs.declared.config.Setting.the-variants.{Valid, Invalid}
 use Rattle.geometry.specs.Config.{labelHolds}
+use Rattle.sectors.specs.Transfer.{Transfer}
 use Rattle.model.specs.declared.block.Block.{Block}
 use Rattle.model.specs.declared.table.Command.{Command}
 use Rattle.model.specs.declared.table.Command.the-variants.{TestReady, Recalibrate, RequestSense, FormatDrive, CheckTrack, FormatTrack, FormatBadTrack, Read, Write, Seek, AssignAlternate, WriteBuffer, ReadBuffer, Initialize, Unknown}
@@ -25,8 +26,7 @@ use Rattle.model.specs.Table.{entryOf}
 use Rattle.model.specs.Checks.{Test, View, judged, lengthsWith, judge}
 use Rattle.model.specs.Record.{driveAt, withDrive, withBuffer, withSense, bareOutcome, failedOutcome, goodOutcome}
 use Rattle.model.specs.Record.{Effect, refused, failed, good, unless}
-use Rattle.model.specs.Transfer.{Transfer, transferred}
-use Rattle.model.specs.Commands.{requestSense, settled, formatDrive, checkTrack, formatTrack, read, write, assignAlternate}
+use Rattle.model.specs.Commands.{requestSense, settled, formatDrive, checkTrack, formatTrack, transferred, read, write, assignAlternate}
 use Rattle.model.specs.Commands.{initialized, initializedBy, initialize, onDisk, carryOut}
 use Rattle.model.specs.Engine.{obey, Result, imageOf, left, execute}
 
@@ -90,8 +90,8 @@ module _ {b : Block} {c : Controller} {image : List ℕ} {command : Command} whe
   configured is Invalid config = ended refl (sense _ nothing)
   configured is (Valid p) config = ended refl (sense _ (initial is config))
 
-module _ (choices : List ℕ) (b : Block) (s : Setting) (given : List ℕ) (c : Controller) (image : List ℕ) where
-  carried-ends : (command : Command) → Ends b c image command (carryOut choices b s given c image command)
+module _ (b : Block) (s : Setting) (given : List ℕ) (c : Controller) (image : List ℕ) where
+  carried-ends : (command : Command) → Ends b c image command (carryOut b s given c image command)
   unfolding carryOut requestSense formatDrive checkTrack formatTrack read write assignAlternate initialize good goodOutcome failed failedOutcome
   carried-ends TestReady = ended refl (sense _ nothing)
   carried-ends Recalibrate = ended refl (sense _ nothing)
@@ -122,10 +122,10 @@ verdict-obeyed b c image command e third h = denied 3 (omega arith) (omega arith
 verdict-obeyed b c image command e (fault code) h = answered (ended refl (sense _ nothing))
 verdict-obeyed b c image command e pass h = answered h
 
-pub obeyed : (choices : List ℕ) (b : Block) (given : List ℕ) (area : ℕ) (c : Controller) (image : List ℕ)
-    → Obeyed b c image (entryOf (b .opcode) .command) (obey choices b given area c image)
+pub obeyed : (b : Block) (given : List ℕ) (area : ℕ) (c : Controller) (image : List ℕ)
+    → Obeyed b c image (entryOf (b .opcode) .command) (obey b given area c image)
 unfolding obey
-obeyed choices b given area c image = verdict-obeyed b c image _ _ (judge-by b _ _ _) (carried-ends choices b _ given c image _)
+obeyed b given area c image = verdict-obeyed b c image _ _ (judge-by b _ _ _) (carried-ends b _ given c image _)
 
 -- ---- All that a call leaves
 -- no drive is both 0 and 1
@@ -161,7 +161,7 @@ pub data Answered (c : Controller) (area image0 image1 : List ℕ) (r : Result) 
   accepted : r .outcome .answer .number ≡ 0 → Answered c area image0 image1 r
   unchanged : (number : ℕ) → 1 ≤ number → number ≤ 3 → r ≡ unmoved c area image0 image1 number → Answered c area image0 image1 r
 
-module _ (choices : List ℕ) (c : Controller) (block given area image0 image1 : List ℕ) where
+module _ (c : Controller) (block given area image0 image1 : List ℕ) where
   left-answered : (b : Block) (command : Command) (e : Effect) → Obeyed b c (imageOf (b .drive) image0 image1) command e
       → Answered c area image0 image1 (left (b .drive) e area image0 image1)
   unfolding left refused bareOutcome splice
@@ -176,9 +176,9 @@ module _ (choices : List ℕ) (c : Controller) (block given area image0 image1 :
   picked-answered true x y hx hy = hx
   picked-answered false x y hx hy = hy
 
-  pub all-answered : Answered c area image0 image1 (execute choices c block given area image0 image1)
+  pub all-answered : Answered c area image0 image1 (execute c block given area image0 image1)
   unfolding execute bareOutcome
   all-answered =
       picked-answered (eqb (length block) 6) _ _
-      (left-answered (blockOf block) _ _ (obeyed choices (blockOf block) given (length area) c (imageOf (blockOf block .drive) image0 image1)))
+      (left-answered (blockOf block) _ _ (obeyed (blockOf block) given (length area) c (imageOf (blockOf block .drive) image0 image1)))
       (unchanged 1 (omega arith) (omega arith) refl)

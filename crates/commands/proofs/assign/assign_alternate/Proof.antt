@@ -1,7 +1,7 @@
 use Prim.Native.Nat.{_<_}
 use native.Mathlib.Omega.{arith}
 use lib.ListN.{getD}
-use Rattle.commands.proofs.Makings.{track-in}
+use Rattle.commands.proofs.Makings.{bound-of}
 use Rattle.commands.proofs.Assigns.{passed-in, fault-below, alternate-below, assign-refused, assign-fails, assign-well}
 use borrow.Author.Needs.{needs}
 use Rattle.commands.proofs.assign.assign_alternate.Statement.{statement}
@@ -89,8 +89,8 @@ make-pair-requires c κs =
     let a = c .before .before .before .before .before .before .before .before .before .before .before .before .before .before .before .before in
     let in-drive = passed-in _ _ _ _ _ _ (judged .assign-faults .ensures) (a .pre .0 .within) (c .before .before .before .before .before .before .enum-told .given .1) in (
       a .pre .0,
-      track-in _ _ _ (c .before .before .before .track-of .ensures) (a .pre .3),
-      track-in _ _ _ (c .before .before .track-of2 .ensures) in-drive,
+      bound-of _ _ _ (c .before .before .before .track-of .ensures) (a .pre .3),
+      bound-of _ _ _ (c .before .before .track-of2 .ensures) in-drive,
       a .pre .4,
       search needs,
     )

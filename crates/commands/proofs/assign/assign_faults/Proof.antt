@@ -1,4 +1,4 @@
-use Rattle.commands.proofs.Makings.{track-in}
+use Rattle.commands.proofs.Makings.{bound-of}
 use Rattle.commands.proofs.Assigns.{first-past, alternate-past, pair-judged, alternate-in}
 use borrow.Author.Needs.{needs}
 use Rattle.commands.proofs.assign.assign_faults.Statement.{statement}
@@ -40,7 +40,7 @@ track-of-requires-2 c κs = search needs
 state-of-requires : tie.Need-state-of-requires
 state-of-requires c κs =
     let a = c .before .before .before .before .before .before .before .before in
-    (a .pre .0, track-in _ _ _ (c .before .track-of .ensures) (a .pre .1))
+    (a .pre .0, bound-of _ _ _ (c .before .track-of .ensures) (a .pre .1))
 
 -- src/assign.rt:73:9
 state-of-requires-2 : tie.Need-state-of-requires-2
@@ -48,7 +48,7 @@ state-of-requires-2 c κs =
     let tested = c .before .before .before in
     let a = tested .before .before .before .before .before .before in
     let in-drive = alternate-in _ (a .pre .0 .within) _ _ (tested .before .before .before .last-address .ensures) (tested .if2 .left) in
-    (a .pre .0, track-in _ _ _ (c .before .track-of2 .ensures) in-drive)
+    (a .pre .0, bound-of _ _ _ (c .before .track-of2 .ensures) in-drive)
 
 -- src/assign.rt:77:9
 is-moved-requires : tie.Need-is-moved-requires

@@ -1,4 +1,4 @@
-use Rattle.commands.proofs.Makings.{track-in}
+use Rattle.commands.proofs.Makings.{bound-of}
 use Rattle.commands.proofs.Checkings.{check-below, check-fails, check-well}
 use borrow.Author.Needs.{needs}
 use Rattle.commands.proofs.check.check_track.Statement.{statement}
@@ -39,7 +39,7 @@ part-check-track-end c = search needs
 check-track-requires : tie.Need-check-track-requires
 check-track-requires c κs =
     let a = c .before .before .before .before .before .before .before in
-    (a .pre .0, track-in _ _ _ (c .before .before .track-of .ensures) (a .pre .3), search needs)
+    (a .pre .0, bound-of _ _ _ (c .before .before .track-of .ensures) (a .pre .3), search needs)
 
 -- src/check.rt:26:9
 failed-requires : tie.Need-failed-requires

@@ -1,5 +1,5 @@
 use mathlib.Core.Path.{refl}
-use Rattle.commands.proofs.Makings.{track-in}
+use Rattle.commands.proofs.Makings.{bound-of}
 use Rattle.commands.proofs.Formats.{track-moved, track-taken, track-well}
 use borrow.Author.Needs.{needs}
 use Rattle.commands.proofs.format.format_track.Statement.{statement}
@@ -22,7 +22,7 @@ track-of-requires c κs = search needs
 state-of-requires : tie.Need-state-of-requires
 state-of-requires c κs =
     let a = c .before .before .before .before .before in
-    (a .pre .0, track-in _ _ _ (c .before .track-of .ensures) (a .pre .3))
+    (a .pre .0, bound-of _ _ _ (c .before .track-of .ensures) (a .pre .3))
 
 -- src/format.rt:154:8
 is-moved-requires : tie.Need-is-moved-requires
@@ -69,7 +69,7 @@ returns-2 c buffer =
 make-at-requires : tie.Need-make-at-requires
 make-at-requires c κs =
     let a = c .before .before .before .before .before .before .before .before .before .before .before in
-    (a .pre .0, track-in _ _ _ (c .before .before .before .before .before .before .before .track-of .ensures) (a .pre .3), a .pre .5, a .pre .4, a .pre .6)
+    (a .pre .0, bound-of _ _ _ (c .before .before .before .before .before .before .before .track-of .ensures) (a .pre .3), a .pre .5, a .pre .4, a .pre .6)
 
 -- src/format.rt:162:5
 good-requires : tie.Need-good-requires

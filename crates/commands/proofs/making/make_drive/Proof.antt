@@ -1,5 +1,5 @@
 use native.Mathlib.Omega.{arith}
-use Rattle.commands.proofs.Makings.{track-in, drive-lent}
+use Rattle.commands.proofs.Makings.{bound-of, drive-lent}
 use borrow.Author.Needs.{needs}
 use Rattle.commands.proofs.making.make_drive.Statement.{statement}
 use Rattle.commands.proofs.making.make_drive.Tie as tie
@@ -38,7 +38,7 @@ part-format-from-end c = search needs
 format-from-requires : tie.Need-format-from-requires
 format-from-requires c κs =
     let a = c .before .before .before .before .before .before .before .before in
-    (a .pre .0, omega (arith, track-in _ _ _ (c .before .before .track-of .ensures) (a .pre .1)), search needs, a .pre .3)
+    (a .pre .0, omega (arith, bound-of _ _ _ (c .before .before .track-of .ensures) (a .pre .1)), search needs, a .pre .3)
 
 -- src/format.rt:114:5
 write-label-requires : tie.Need-write-label-requires

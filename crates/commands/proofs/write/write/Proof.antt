@@ -4,7 +4,7 @@ use native.Mathlib.Omega.{arith}
 use Rattle.geometry.proofs.Sizes.{sectors-most}
 use Rattle.commands.proofs.Ends.{count-most, room-all, room-done}
 use Rattle.commands.proofs.WriteEnds.{write-code, write-leaves}
-use Rattle.commands.proofs.Writings.{written-most}
+use Rattle.sectors.proofs.WriteLoops.{written-most}
 use borrow.Author.Needs.{needs}
 use Rattle.commands.proofs.write.write.Statement.{statement}
 use Rattle.commands.proofs.write.write.Tie as tie

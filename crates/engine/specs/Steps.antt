@@ -1,0 +1,20 @@
+-- What holds of a command that the checks have let pass, and all that a call has left.
+use Prim.Native.Nat.{ℕ, _<_}
+use mathlib.Core.Path.{_≡_}
+use mathlib.Core.List.{List}
+use Rattle.model.specs.declared.block.Block.{Block}
+use Rattle.model.specs.declared.record.Controller.{Controller}
+use Rattle.model.specs.declared.record.Outcome.{Outcome}
+use Rattle.model.specs.declared.verdict.Verdict.the-variants.{Passed}
+use Rattle.model.specs.Checks.{judge}
+use Rattle.model.specs.Record.{driveAt}
+use Rattle.model.specs.Engine.{viewOf, Result}
+
+-- The order of checks has let the command pass.
+pub record Admitted (c : Controller) (b : Block) (given area image : ℕ) : Type 0 where
+  pub drive : b .drive < 4
+  pub address : b .address .0 < 2097152
+  pub passed : judge b (viewOf (driveAt c (b .drive)) image) given area ≡ Passed
+
+abbrev pub resultNow : Outcome → (area image0 image1 : List ℕ) → Result
+resultNow outcome area image0 image1 = record { outcome = outcome; area = area; image0 = image0; image1 = image1 }

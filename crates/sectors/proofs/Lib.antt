@@ -1,0 +1,10 @@
+pub mod Runs
+pub mod ReadRun
+pub mod WriteRun
+pub mod Founds
+pub mod Onwards
+pub mod Along
+pub mod Readings
+pub mod ReadLoops
+pub mod WriteParts
+pub mod WriteLoops

@@ -1,0 +1,136 @@
+use mathlib.Core.Path.{refl}
+use Prim.Native.Nat.{_+_, _-_, _*_, _≤_}
+use native.Mathlib.Omega.{arith}
+use lib.ListN.{length, length-take, length-drop}
+use Rattle.geometry.proofs.Sizes.{sectors-most}
+use Rattle.sectors.proofs.ReadLoops.{Reading, reading-none, reading-room, reading-all, reading-most, reading-stop, reading-whole, reading-more}
+use borrow.Author.Needs.{needs}
+use Rattle.sectors.proofs.read.read_sectors.Statement.{statement}
+use Rattle.sectors.proofs.read.read_sectors.Tie as tie
+
+abbrev Inv-loop : tie.InvT-loop
+Inv-loop image p n area₀ size first i₀ at₀ area i at = Reading p n first image area₀ area i at
+
+abbrev μ-loop : tie.MeasureT-loop
+μ-loop image p n area₀ size first i₀ at₀ area i at = n - i
+
+loop-holds : tie.Need-loop-holds Inv-loop μ-loop
+loop-holds c = reading-none _ _ _ _ _
+
+-- the address is on the drive
+address : (c : tie.In-loop Inv-loop μ-loop) → c .before .before .before .before .args .a .0 + c .before .loop .i ≤ 229375
+address c = let a = c .before .before .before .before in omega (arith, a .pre .1, c .loop-test .taken, sectors-most (a .args .p) (a .pre .0 .within))
+
+cast-t15 : tie.Need-cast-t15 Inv-loop μ-loop
+cast-t15 c = omega (arith, address c)
+
+add-t16 : tie.Need-add-t16 Inv-loop μ-loop
+add-t16 c = omega (arith, address c)
+
+sub-sectors-here : tie.Need-sub-sectors-here Inv-loop μ-loop
+sub-sectors-here c = search needs
+
+sectors-here-requires : tie.Need-sectors-here-requires Inv-loop μ-loop
+sectors-here-requires c κs = search needs
+
+-- the sectors here are among those left, and their places within the area
+left : (c : tie.After-sectors-here Inv-loop μ-loop)
+    → c .before .before .loop .i + c .sectors-here .result ≤ c .before .before .before .before .before .args .n
+left c = omega (arith, c .before .loop-test .taken, c .sectors-here .ensures .2)
+
+room : (c : tie.After-sectors-here Inv-loop μ-loop)
+    → c .before .before .loop .at + c .sectors-here .result * c .before .before .before .before .before .args .p .size
+    ≤ length (c .before .before .loop .area)
+room c =
+    let a = c .before .before .before .before .before in
+    reading-room _ _ _ _ _ _ _ _ (c .before .before .loop .inv) (a .pre .0) (a .pre .1) (a .pre .2) _ (left c)
+
+mul-end : tie.Need-mul-end Inv-loop μ-loop
+mul-end c = omega (arith, room c)
+
+add-end : tie.Need-add-end Inv-loop μ-loop
+add-end c = omega (arith, room c)
+
+sub-read-part : tie.Need-sub-read-part Inv-loop μ-loop
+sub-read-part c = search needs
+
+part-read-part-start : tie.Need-part-read-part-start Inv-loop μ-loop
+part-read-part-start c = search needs
+
+part-read-part-end : tie.Need-part-read-part-end Inv-loop μ-loop
+part-read-part-end c = room c
+
+read-part-requires : tie.Need-read-part-requires Inv-loop μ-loop
+read-part-requires c κs =
+    let here = c .before in
+    let a = here .before .before .before .before .before in (
+      a .pre .0,
+      omega (arith, a .pre .1, here .before .loop-test .taken),
+      here .sectors-here .ensures .1,
+      here .sectors-here .ensures .3,
+      simp (length-take, length-drop) (omega (arith, room here)),
+    )
+
+add-i : tie.Need-add-i Inv-loop μ-loop
+add-i c =
+    let here = c .before .before .before .before .before in
+    let a = here .before .before .before .before .before in
+    let most = reading-most _ _ _ _ _ _ _ _ (here .before .before .loop .inv) (a .pre .0) (a .pre .1) (a .pre .2) _ (left here)
+    _ _ _ refl (c .before .before .before .read-part .ensures) in
+    omega (arith, most)
+
+same-length : tie.Need-same-length Inv-loop μ-loop
+same-length c = search needs
+
+returns : tie.Need-returns Inv-loop μ-loop
+returns c =
+    let here = c .before .before .before .before .before .before .before in
+    let a = here .before .before .before .before .before in
+    reading-stop _ _ _ _ _ _ _ _ (here .before .before .loop .inv) (a .pre .0) (a .pre .1) (a .pre .2) _ (left here)
+    _ _ _ refl (c .before .before .before .before .before .read-part .ensures) (c .if1 .taken)
+
+loop-less : tie.Need-loop-less Inv-loop μ-loop
+loop-less c =
+    let here = c .before .before .before .before .before .before .before in
+    let a = here .before .before .before .before .before in
+    let whole = reading-whole _ _ _ _ _ _ _ _ (here .before .before .loop .inv) (a .pre .0) (a .pre .1) (a .pre .2) _ (left here)
+    _ _ _ refl (c .before .before .before .before .before .read-part .ensures) (c .if1 .left) in
+    omega (arith, whole, here .before .loop-test .taken, here .sectors-here .ensures .1)
+
+loop-again : tie.Need-loop-again Inv-loop μ-loop
+loop-again c =
+    let here = c .before .before .before .before .before .before .before in
+    let a = here .before .before .before .before .before in
+    reading-more _ _ _ _ _ _ _ _ (here .before .before .loop .inv) (a .pre .0) (a .pre .1) (a .pre .2) _ (left here)
+    _ _ _ refl (c .before .before .before .before .before .read-part .ensures) (c .if1 .left)
+
+same-length-2 : tie.Need-same-length-2 Inv-loop μ-loop
+same-length-2 c = search needs
+
+returns-2 : tie.Need-returns-2 Inv-loop μ-loop
+returns-2 c = reading-all _ _ _ _ _ _ _ _ (c .before .loop .inv) (c .loop-test .left)
+
+pub read-sectors-spec : {M : Type 1} → statement M
+read-sectors-spec =
+    tie.close
+    (tie.spec
+    Inv-loop
+    μ-loop
+    loop-holds
+    cast-t15
+    add-t16
+    sub-sectors-here
+    sectors-here-requires
+    mul-end
+    add-end
+    sub-read-part
+    part-read-part-start
+    part-read-part-end
+    read-part-requires
+    add-i
+    same-length
+    returns
+    loop-less
+    loop-again
+    same-length-2
+    returns-2)

@@ -1,0 +1,135 @@
+use Prim.Native.Nat.{_+_, _-_, _≤_, _<_}
+use mathlib.Core.Path.{sym}
+use native.Mathlib.Omega.{arith}
+use lib.ListN.{length, getD, length-take, length-drop}
+use Rattle.sectors.proofs.ReadRun.{slot-long, data-long, Reading, reading-none, reading-room, reading-all, reading-stop, reading-slot, reading-more}
+use borrow.Author.Needs.{needs}
+use Rattle.sectors.proofs.run.read_run.Statement.{statement}
+use Rattle.sectors.proofs.run.read_run.Tie as tie
+
+abbrev Inv-loop : tie.InvT-loop
+Inv-loop track p s m places₀ size slots₀ looked₀ at₀ i₀ places slots looked at i = Reading p m s track places₀ places slots looked at i
+
+abbrev μ-loop : tie.MeasureT-loop
+μ-loop track p s m places₀ size slots₀ looked₀ at₀ i₀ places slots looked at i = m - i
+
+loop-holds : tie.Need-loop-holds Inv-loop μ-loop
+loop-holds c = reading-none _ _ _ _ _
+
+slice-aggregate-look-for : tie.Need-slice-aggregate-look-for Inv-loop μ-loop
+slice-aggregate-look-for c = sym (c .before .before .loop .inv .upto .long)
+
+add-look-for : tie.Need-add-look-for Inv-loop μ-loop
+add-look-for c = search needs
+
+look-for-requires : tie.Need-look-for-requires Inv-loop μ-loop
+look-for-requires c κs = search needs
+
+add-k : tie.Need-add-k Inv-loop μ-loop
+add-k c = search needs
+
+array-read-k : tie.Need-array-read-k Inv-loop μ-loop
+array-read-k c = search needs
+
+same-length : tie.Need-same-length Inv-loop μ-loop
+same-length c = search needs
+
+returns : tie.Need-returns Inv-loop μ-loop
+returns c =
+    let in-loop = c .before .before .before .before in
+    reading-stop _ _ _ _ _ _ _ _ _ _ (in-loop .before .loop .inv) (in-loop .before .before .before .before .pre) (in-loop .loop-test .taken)
+    _ _ (c .before .before .look-for .ensures) (c .if1 .taken)
+
+-- the sector's place is within the places, and its slot within the track
+room : (c : tie.In-loop Inv-loop μ-loop) → c .before .loop .at + c .before .before .before .before .args .p .size ≤ length (c .before .loop .places)
+room c = reading-room _ _ _ _ _ _ _ _ _ _ (c .before .loop .inv) (c .before .before .before .before .pre) (c .loop-test .taken)
+
+there : (c : tie.Else1 Inv-loop μ-loop)
+    → getD (c .before .before .look-for .last .1 .1 .0)
+    (c .before .before .before .before .before .before .before .before .args .s + c .before .before .before .before .before .loop .i) 0
+    < c .before .before .before .before .before .before .before .before .args .p .sectors
+there c =
+    let in-loop = c .before .before .before .before in
+    reading-slot _ _ _ _ _ _ _ _ _ _ (in-loop .before .loop .inv) (in-loop .before .before .before .before .pre) (in-loop .loop-test .taken)
+    _ _ (c .before .before .look-for .ensures) (c .if1 .left)
+
+add-end : tie.Need-add-end Inv-loop μ-loop
+add-end c = omega (arith, room (c .before .before .before .before))
+
+cast-slot-at : tie.Need-cast-slot-at Inv-loop μ-loop
+cast-slot-at c = omega (arith, there c)
+
+slot-at-requires : tie.Need-slot-at-requires Inv-loop μ-loop
+slot-at-requires c κs = let a = c .before .before .before .before .before .before .before .before in (a .pre .0, a .pre .1, there c)
+
+sub-copy-bytes : tie.Need-sub-copy-bytes Inv-loop μ-loop
+sub-copy-bytes c = search needs
+
+part-copy-bytes-start : tie.Need-part-copy-bytes-start Inv-loop μ-loop
+part-copy-bytes-start c = search needs
+
+part-copy-bytes-end : tie.Need-part-copy-bytes-end Inv-loop μ-loop
+part-copy-bytes-end c = room (c .before .before .before .before .before)
+
+slot-data-requires : tie.Need-slot-data-requires Inv-loop μ-loop
+slot-data-requires c κs =
+    let called = c .before .before in
+    let a = called .before .before .before .before .before .before .before .before in
+    (a .pre .0, slot-long _ _ (a .pre .1) _ (there called) _ (c .before .slot-at .ensures))
+
+copy-bytes-requires : tie.Need-copy-bytes-requires Inv-loop μ-loop
+copy-bytes-requires c κs =
+    let called = c .before .before .before in
+    let in-loop = called .before .before .before .before in
+    let a = in-loop .before .before .before .before in
+    let copied = data-long _ _ (a .pre .1) _ (there called) _ (c .before .before .slot-at .ensures) _ (c .slot-data .ensures) in
+    simp (length-take, length-drop, copied) (omega (arith, room in-loop))
+
+add-i : tie.Need-add-i Inv-loop μ-loop
+add-i c = search needs
+
+loop-less : tie.Need-loop-less Inv-loop μ-loop
+loop-less c = search needs
+
+loop-again : tie.Need-loop-again Inv-loop μ-loop
+loop-again c =
+    let called = c .before .before .before .before .before .before in
+    let in-loop = called .before .before .before .before in
+    reading-more _ _ _ _ _ _ _ _ _ _ (in-loop .before .loop .inv) (in-loop .before .before .before .before .pre) (in-loop .loop-test .taken)
+    _ _ (called .before .before .look-for .ensures) (called .if1 .left)
+    _ _ _ (c .before .before .before .before .before .slot-at .ensures) (c .before .before .before .slot-data .ensures)
+    (c .before .before .copy-bytes .ensures)
+
+same-length-2 : tie.Need-same-length-2 Inv-loop μ-loop
+same-length-2 c = search needs
+
+returns-2 : tie.Need-returns-2 Inv-loop μ-loop
+returns-2 c = reading-all _ _ _ _ _ _ _ _ _ _ (c .before .loop .inv) (c .loop-test .left)
+
+pub read-run-spec : {M : Type 1} → statement M
+read-run-spec =
+    tie.close
+    (tie.spec
+    Inv-loop
+    μ-loop
+    loop-holds
+    slice-aggregate-look-for
+    add-look-for
+    look-for-requires
+    add-k
+    array-read-k
+    same-length
+    returns
+    add-end
+    cast-slot-at
+    slot-at-requires
+    sub-copy-bytes
+    part-copy-bytes-start
+    part-copy-bytes-end
+    slot-data-requires
+    copy-bytes-requires
+    add-i
+    loop-less
+    loop-again
+    same-length-2
+    returns-2)

@@ -1,0 +1,3 @@
+pub mod Transfer
+pub mod Promises
+pub mod Run

@@ -1,0 +1,26 @@
+-- What reading and writing sectors promise.
+use Prim.Native.Nat.{ℕ}
+use mathlib.Core.Path.{_≡_}
+use mathlib.Core.List.{List}
+use Rattle.base.specs.Part.{splice}
+use Rattle.geometry.specs.declared.params.Params.{Params}
+use Rattle.sectors.specs.declared.transfer.Done.{Done}
+use Rattle.sectors.specs.Transfer.{Transfer, begun, reading, writing}
+
+pub record ReadBy (x : Transfer) (done : Done) (before after : List ℕ) : Type 0 where
+  pub sectors : done .sectors ≡ x .done
+  pub code : done .code ≡ x .code
+  pub area : after ≡ splice 0 (x .handed) before
+
+-- n sectors from address a on, read
+abbrev pub HasRead : Params → (n a : ℕ) → (image : List ℕ) → Done → (before after : List ℕ) → Type 0
+HasRead p n a image done before after = ReadBy (reading p n a (begun image)) done before after
+
+pub record WrittenBy (x : Transfer) (done : Done) (after : List ℕ) : Type 0 where
+  pub sectors : done .sectors ≡ x .done
+  pub code : done .code ≡ x .code
+  pub image : after ≡ x .image
+
+-- n sectors from address a on, written
+abbrev pub HasWritten : Params → (n a : ℕ) → (given : List ℕ) → Done → (before after : List ℕ) → Type 0
+HasWritten p n a given done before after = WrittenBy (writing p n a given (begun before)) done after
