@@ -14,6 +14,7 @@ unfoldable pub lastOf : (n size : ℕ) → List ℕ → List ℕ
 lastOf zero size xs = []
 lastOf (suc n) size xs = part (n * size) size xs
 
+-- Good, or the failing sector's code with its own address; the sectors done are counted either way.
 unfoldable pub finishOf : Block → (sectors code bytes : ℕ) → Controller → Outcome
 finishOf b sectors code bytes c =
     pick (eqb code 0) (goodOutcome (b .drive) sectors bytes c)

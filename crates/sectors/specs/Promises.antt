@@ -7,6 +7,7 @@ use Rattle.geometry.specs.declared.params.Params.{Params}
 use Rattle.sectors.specs.declared.transfer.Done.{Done}
 use Rattle.sectors.specs.Transfer.{Transfer, begun, reading, writing}
 
+-- How far it came and why it ended, and what is at the front of the data area: as the transfer x says.
 pub record ReadBy (x : Transfer) (done : Done) (before after : List ℕ) : Type 0 where
   pub sectors : done .sectors ≡ x .done
   pub code : done .code ≡ x .code
@@ -16,6 +17,7 @@ pub record ReadBy (x : Transfer) (done : Done) (before after : List ℕ) : Type 
 abbrev pub HasRead : Params → (n a : ℕ) → (image : List ℕ) → Done → (before after : List ℕ) → Type 0
 HasRead p n a image done before after = ReadBy (reading p n a (begun image)) done before after
 
+-- How far it came and why it ended, and the whole image: as the transfer x says.
 pub record WrittenBy (x : Transfer) (done : Done) (after : List ℕ) : Type 0 where
   pub sectors : done .sectors ≡ x .done
   pub code : done .code ≡ x .code
