@@ -1,5 +1,8 @@
 /* The disk engine of a fitting console's controller card, for firmware in C. Link libfirmware.a.
  *
+ * Each call is lent four disk images, one for each drive: drives 0 and 1 are hard disks, drives 2 and 3 floppies, whatever
+ * their images hold. An image under 16 bytes is an absent drive.
+ *
  * Each call is proved for any record, block, data and images, of any bytes and any lengths. The caller's duty is that each
  * pointer leads to as many bytes as its length says (a length of 0 needs a pointer that is not null), that what a call may
  * change (the record, the data area, the images of lanthewg_execute) overlaps nothing else that the call is lent, and that
@@ -38,21 +41,28 @@ typedef struct {
     uint32_t bytes;   /* handed over, at the front of the data area */
 } lanthewg_answer;
 
-/* Makes a fresh controller for two images: a valid label comes into force. An image under 16 bytes is an absent drive. */
+/* Makes a fresh controller, as it is after Reset: each drive's label, if it is valid there, comes into force. */
 void lanthewg_fresh(lanthewg_controller *controller,
                     const uint8_t *image0, size_t image0_length,
-                    const uint8_t *image1, size_t image1_length);
+                    const uint8_t *image1, size_t image1_length,
+                    const uint8_t *image2, size_t image2_length,
+                    const uint8_t *image3, size_t image3_length);
 
 lanthewg_answer lanthewg_reset(lanthewg_controller *controller,
                                const uint8_t *image0, size_t image0_length,
-                               const uint8_t *image1, size_t image1_length);
+                               const uint8_t *image1, size_t image1_length,
+                               const uint8_t *image2, size_t image2_length,
+                               const uint8_t *image3, size_t image3_length);
 
+/* A command: its block, the data given with it, and the data area for what it hands over. */
 lanthewg_answer lanthewg_execute(lanthewg_controller *controller,
                                  const uint8_t *block, size_t block_length,
                                  const uint8_t *given, size_t given_length,
                                  uint8_t *area, size_t area_length,
                                  uint8_t *image0, size_t image0_length,
-                                 uint8_t *image1, size_t image1_length);
+                                 uint8_t *image1, size_t image1_length,
+                                 uint8_t *image2, size_t image2_length,
+                                 uint8_t *image3, size_t image3_length);
 
 #ifdef __cplusplus
 }

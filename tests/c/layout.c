@@ -4,6 +4,10 @@
 #include <stdio.h>
 #include <string.h>
 
+enum { SIZE = sizeof(lanthewg_controller), MORE = 64, LENGTH = 25360 };
+
+static union { lanthewg_controller card; uint8_t bytes[SIZE + MORE]; } record;
+static uint8_t images[4][LENGTH], area[512], given[512];
 static int failed;
 
 static void expect(int holds, const char *what) {
@@ -11,65 +15,117 @@ static void expect(int holds, const char *what) {
 }
 
 /* The first place where the record is not zero. */
-static size_t first_change(const uint8_t *record, size_t size) {
+static size_t first_change(void) {
     size_t i = 0;
-    while (i < size && record[i] == 0) i++;
+    while (i < sizeof record.bytes && record.bytes[i] == 0) i++;
     return i;
 }
 
-int main(void) {
-    enum { SIZE = sizeof(lanthewg_controller), MORE = 64 };
-    static union { lanthewg_controller card; uint8_t bytes[SIZE + MORE]; } record;
-    static uint8_t image[25360], other[25360], area[512], given[512];
-    static const uint8_t three[10] = {0, 3, 1, 0, 1, 9, 8, 7, 6, 11};
-    uint8_t block[6];
-    memset(given, 0x5A, sizeof given);
+/* A fresh record for images of these lengths. */
+static void fresh(size_t hard_disks, size_t floppies) {
+    lanthewg_fresh(&record.card, images[0], hard_disks, images[1], hard_disks, images[2], floppies, images[3], floppies);
+}
 
-    /* fresh fills the record from the first byte to the last, and nothing past it */
+/* A command on images of these lengths. */
+static lanthewg_answer lent(const uint8_t *block, size_t block_length, const uint8_t *data, size_t data_length,
+                            size_t hard_disks, size_t floppies) {
+    return lanthewg_execute(&record.card, block, block_length, data, data_length, area, sizeof area,
+                            images[0], hard_disks, images[1], hard_disks, images[2], floppies, images[3], floppies);
+}
+
+/* A command on four drives. */
+static lanthewg_answer command(uint8_t opcode, int drive, uint8_t extra, const uint8_t *data, size_t data_length) {
+    const uint8_t block[6] = {opcode, (uint8_t)(32 * drive), 0, 0, extra, 0};
+    return lent(block, sizeof block, data, data_length, LENGTH, LENGTH);
+}
+
+/* fresh fills the record from the first byte to the last, and nothing past it */
+static void sizes(void) {
     memset(record.bytes, 0xEE, sizeof record.bytes);
-    lanthewg_fresh(&record.card, image, sizeof image, other, sizeof other);
-    size_t end = 0;
-    while (end < sizeof record.bytes && record.bytes[end] == 0) end++;
-    expect(end == SIZE, "the record's size");
+    fresh(LENGTH, LENGTH);
+    expect(first_change() == SIZE, "the record's size");
+    memset(record.bytes, 0, sizeof record.bytes);
     expect(sizeof(lanthewg_drive) == 16 && sizeof(lanthewg_answer) == 12, "sizes of drive and answer");
+}
 
-    /* the sense of each drive: Test Ready of an absent or unconfigured one leaves a code in its first byte */
+/* The sense of each drive: Test Ready of an absent or unconfigured one leaves a code in its first byte. */
+static void senses(size_t hard_disks, size_t floppies) {
     for (int drive = 0; drive < 4; drive++) {
-        lanthewg_fresh(&record.card, image, sizeof image, other, sizeof other);
-        memset(block, 0, sizeof block);
-        block[1] = (uint8_t)(32 * drive);
-        lanthewg_answer a = lanthewg_execute(&record.card, block, 6, given, 0, area, 0, image, sizeof image, other, sizeof other);
+        const uint8_t ready[6] = {0x00, (uint8_t)(32 * drive)};
+        fresh(hard_disks, floppies);
+        lanthewg_answer a = lent(ready, sizeof ready, given, 0, hard_disks, floppies);
         size_t at = offsetof(lanthewg_controller, drives) + (size_t)drive * sizeof(lanthewg_drive);
-        expect(first_change(record.bytes, SIZE) == at, "a drive's sense");
-        expect(record.card.drives[drive].sense[0] == (drive < 2 ? 0x0A : 0x04), "a drive's sense code");
+        size_t length = drive < 2 ? hard_disks : floppies;
+        expect(first_change() == at, "a drive's sense");
+        expect(record.card.drives[drive].sense[0] == (length < 16 ? 0x04 : 0x0A), "a drive's sense code");
         expect(a.number == 0 && a.status == 2 + 32 * drive && a.message == 0 && a.sectors == 0 && a.bytes == 0, "an answer");
     }
+}
 
-    /* the buffer, and the count of bytes handed over */
-    memset(block, 0, sizeof block);
-    block[0] = 0x0F;
-    lanthewg_execute(&record.card, block, 6, given, sizeof given, area, 0, image, sizeof image, other, sizeof other);
+/* The buffer, and the count of bytes handed over. */
+static void buffer(void) {
+    command(0x0F, 0, 0, given, sizeof given);
     expect(memcmp(record.card.buffer, given, 512) == 0, "the buffer");
-    block[0] = 0x10;
-    lanthewg_answer whole = lanthewg_execute(&record.card, block, 6, given, 0, area, sizeof area, image, sizeof image, other, sizeof other);
-    expect(whole.bytes == 512 && memcmp(area, given, 512) == 0, "bytes handed over");
+    lanthewg_answer a = command(0x10, 0, 0, given, 0);
+    expect(a.bytes == 512 && memcmp(area, given, 512) == 0, "bytes handed over");
+}
 
-    /* configuration, known and pending, then the count of sectors */
-    block[0] = 0x11;
-    lanthewg_execute(&record.card, block, 6, three, 10, area, 0, image, sizeof image, other, sizeof other);
-    expect(memcmp(record.card.drives[0].config, three, 10) == 0, "the configuration");
-    expect(record.card.drives[0].known && record.card.drives[0].pending, "known and pending");
-    block[0] = 0x04;
-    block[4] = 1;
-    lanthewg_execute(&record.card, block, 6, given, 0, area, 0, image, sizeof image, other, sizeof other);
-    expect(record.card.drives[0].known && !record.card.drives[0].pending, "pending ended");
-    block[0] = 0x08;
-    lanthewg_answer one = lanthewg_execute(&record.card, block, 6, given, 0, area, sizeof area, image, sizeof image, other, sizeof other);
-    expect(one.sectors == 1 && one.bytes == 256, "sectors done");
+/* The four labels are in force. */
+static void loaded(const uint8_t configs[4][10], const char *what) {
+    for (int drive = 0; drive < 4; drive++) {
+        const lanthewg_drive *kept = &record.card.drives[drive];
+        expect(memcmp(kept->config, configs[drive], 10) == 0 && kept->known && !kept->pending, what);
+    }
+}
 
-    /* refusals */
-    lanthewg_answer shorter = lanthewg_execute(&record.card, block, 5, given, 0, area, 0, image, sizeof image, other, sizeof other);
-    expect(shorter.number == 1 && shorter.status == 0, "number 1");
-    if (!failed) printf("layout: as the header says (record %zu bytes, drive %zu, answer %zu)\n", sizeof(lanthewg_controller), sizeof(lanthewg_drive), sizeof(lanthewg_answer));
-    return failed;
+/* Configuration, known and pending, then the image, then the count of sectors: each drive's its own. */
+static void drives(void) {
+    static const uint8_t configs[4][10] = {
+        {0, 3, 1, 0, 1, 9, 8, 7, 6, 11},
+        {0, 2, 1, 0, 2, 6, 7, 8, 9, 10},
+        {0, 5, 2, 0x31, 0, 1, 2, 3, 4, 250},
+        {0, 4, 1, 0x01, 0, 5, 6, 7, 8, 9},
+    };
+    static const uint32_t size[4] = {256, 512, 128, 128};
+    for (int drive = 0; drive < 4; drive++) {
+        const lanthewg_drive *kept = &record.card.drives[drive];
+        command(0x11, drive, 0, configs[drive], 10);
+        expect(memcmp(kept->config, configs[drive], 10) == 0, "the configuration");
+        expect(kept->known && kept->pending, "known and pending");
+        expect(images[drive][1] == 0, "an image before its format");
+        command(0x04, drive, 1, given, 0);
+        expect(kept->known && !kept->pending, "pending ended");
+        expect(memcmp(images[drive], configs[drive], 10) == 0, "a drive's own image");
+        lanthewg_answer a = command(0x08, drive, 1, given, 0);
+        expect(a.sectors == 1 && a.bytes == size[drive], "sectors done");
+    }
+    memset(record.bytes, 0, SIZE);
+    lanthewg_answer a = lanthewg_reset(&record.card, images[0], LENGTH, images[1], LENGTH,
+                                       images[2], LENGTH, images[3], LENGTH);
+    expect(a.number == 0 && a.status == 0 && a.bytes == 0, "Reset's answer");
+    loaded(configs, "a label that Reset loads");
+    memset(record.bytes, 0, SIZE);
+    fresh(LENGTH, LENGTH);
+    loaded(configs, "a label that fresh loads");
+}
+
+static void refusals(void) {
+    const uint8_t block[6] = {0x10};
+    lanthewg_answer a = lent(block, 5, given, 0, LENGTH, LENGTH);
+    expect(a.number == 1 && a.status == 0, "number 1");
+}
+
+int main(void) {
+    memset(given, 0x5A, sizeof given);
+    sizes();
+    senses(LENGTH, LENGTH);
+    senses(LENGTH, 0);
+    senses(15, LENGTH);
+    buffer();
+    drives();
+    refusals();
+    if (failed) return 1;
+    printf("layout: as the header says (record %zu bytes, drive %zu, answer %zu)\n",
+           sizeof(lanthewg_controller), sizeof(lanthewg_drive), sizeof(lanthewg_answer));
+    return 0;
 }

@@ -1,5 +1,5 @@
 -- Laws of tests.
-use mathlib.Core.Path.{_≡_, refl}
+use mathlib.Core.Path.{_≡_, refl, sym, _∙_}
 use mathlib.Core.Bool.{Bool, true, false, not, _&&_, _||_, true≢false, false≢true}
 use Prim.Native.Nat.{ℕ, _≤_, _<_}
 use native.Mathlib.Omega.{arith}
@@ -32,3 +32,10 @@ not-false false e = absurd (true≢false e)
 pub not-true : (b : Bool) → not b ≡ true → b ≡ false
 not-true true e = absurd (false≢true e)
 not-true false e = refl
+
+-- a test that the code has made, where it goes on and where it turns off
+pub test-on : (b x : Bool) → b ≡ x → not b ≡ false → x ≡ true
+test-on b x is e = sym is ∙ not-false b e
+
+pub test-off : (b x : Bool) → b ≡ x → not b ≡ true → x ≡ false
+test-off b x is e = sym is ∙ not-true b e

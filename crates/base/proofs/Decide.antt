@@ -24,4 +24,10 @@ unfolding pick
 pick-not-false true x y e = refl
 pick-not-false false x y e = absurd (true≢false e)
 
+-- what holds of both holds of the one that is picked
+pub pick-both {ℓ m} : {A : Type ℓ} (P : A → Type m) (b : Bool) (x y : A) → P x → P y → P (pick b x y)
+unfolding pick
+pick-both P true x y hx hy = hx
+pick-both P false x y hx hy = hy
+
 pub ruleset decide = (le-leb, lt-leb, lt-ltb, le-ltb, eq-eqb, ne-eqb, pick-true, pick-false, pick-not-true, pick-not-false)

@@ -7,12 +7,12 @@ use native.Mathlib.Omega.{arith}
 use lib.ListN.{take}
 use lib.Dec.{eqb}
 use borrow.Author.Tests.{lt-ltb, le-ltb, ltb-false}
-use Rattle.base.specs.Pick.{pick}
 use Rattle.base.specs.Part.{part}
 use Rattle.geometry.specs.declared.params.Lba.{Lba}
 use Rattle.geometry.specs.declared.params.Track.{Track}
 use Rattle.geometry.specs.declared.params.Params.{Params}
 use Rattle.geometry.specs.Params.{Within, trackCount, trackOf, lastAddress}
+use Rattle.geometry.specs.Medium.{mediumOf}
 use Rattle.geometry.specs.Config.{byte}
 use Rattle.geometry.proofs.Addresses.{track-in}
 use Rattle.geometry.proofs.Sizes.{sectors-some}
@@ -24,15 +24,14 @@ use Rattle.model.specs.declared.record.Controller.{Controller}
 use Rattle.model.specs.declared.record.Outcome.{Outcome}
 use Rattle.model.specs.declared.verdict.Verdict.{Verdict}
 use Rattle.model.specs.declared.verdict.Verdict.the-variants.{Refused, Faulty, Passed}
-use Rattle.model.specs.Block.{fromBuffer, alternateOf}
+use Rattle.model.specs.Block.{alternateOf}
 use Rattle.model.specs.Checks.{on, judged}
 use Rattle.model.specs.Record.{bareOutcome, failedOutcome, goodOutcome}
-use Rattle.model.specs.Commands.{isBad, isMoved, isTaken, plainFill, madeAt, assignTests, assigned, assignAlternate}
+use Rattle.model.specs.Commands.{fillOf, isBad, isMoved, isTaken, plainFill, madeAt, assignTests, assigned, assignAlternate}
 use Rattle.model.proofs.Judged.{judged-hit, judged-on, passed-on, fault-in, fault-none, passed-faulty}
 use Rattle.control.specs.Leaves.{silent}
 use Rattle.commands.proofs.Endings.{ends-refused, ends-faulty, ends-well}
 use Rattle.commands.proofs.Makings.{fill-lent}
-use Rattle.commands.proofs.Formats.{fill-is}
 
 -- the alternate track is of this drive
 pub alternate-in : (p : Params) → Within p → (alternate last : Lba) → last ≡ lastAddress p → alternate .0 ≤ last .0
@@ -113,7 +112,7 @@ unfolding alternateOf
 alternate-below given alternate e h₁ h₂ h₀ = rw e (omega arith)
 
 -- ---- what is made, and the three ends
-pub pair-made : (b : Block) (p : Params) (from to : Track) (plain fill image one left : List ℕ) → part 0 (p .size) plain ≡ plainFill p
+pub pair-made : (b : Block) (p : Params) (from to : Track) (plain fill image one left : List ℕ) → part 0 (p .size) plain ≡ plainFill (mediumOf (b .drive)) p
     → one ≡ madeAt b p from (Moved to) (take (p .size - 0) plain) image → left ≡ madeAt b p to (Taken from) fill one
     → left ≡ assigned b p from to fill image
 unfolding assigned
@@ -136,9 +135,9 @@ module _ (b : Block) (p : Params) (given : List ℕ) (c : Controller) (image : L
   assign-fails code at e eo = ends-faulty b c image _ outcome _ code at (is-verdict ∙ e) eo
 
   pub assign-well : (from to : Track) (fill left : List ℕ) → verdict ≡ Passed → from ≡ trackOf p (b .address) → to ≡ trackOf p alternate
-      → part 0 (p .size) fill ≡ pick (fromBuffer b) (part 0 (p .size) (c .buffer)) (plainFill p)
+      → part 0 (p .size) fill ≡ fillOf b p (c .buffer)
       → left ≡ assigned b p from to (take (p .size - 0) fill) image → outcome ≡ goodOutcome (b .drive) 0 0 c
       → silent outcome left ≡ assignAlternate b p given c image
   unfolding assignAlternate
   assign-well from to fill left e ef et ep el eo =
-      ends-well b c image _ outcome c _ left (is-verdict ∙ e) eo (el ∙ rw (ef, et, ea, fill-is b p c fill ep))
+      ends-well b c image _ outcome c _ left (is-verdict ∙ e) eo (el ∙ rw (ef, et, ea, fill-lent (p .size) fill ∙ ep))

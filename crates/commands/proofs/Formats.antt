@@ -4,7 +4,6 @@ use mathlib.Core.Bool.{Bool, true, false}
 use mathlib.Core.List.{List}
 use Prim.Native.Nat.{ℕ, _-_}
 use lib.ListN.{take, set}
-use Rattle.base.specs.Pick.{pick}
 use Rattle.base.specs.Part.{part}
 use Rattle.geometry.specs.declared.params.Params.{Params}
 use Rattle.geometry.specs.declared.params.Track.{Track}
@@ -15,9 +14,8 @@ use Rattle.model.specs.declared.block.Block.{Block}
 use Rattle.model.specs.declared.record.Drive.{Drive}
 use Rattle.model.specs.declared.record.Controller.{Controller}
 use Rattle.model.specs.declared.record.Outcome.{Outcome}
-use Rattle.model.specs.Block.{fromBuffer}
 use Rattle.model.specs.Record.{driveIn, driveAt, withDrive, failedOutcome, goodOutcome}
-use Rattle.model.specs.Commands.{isMoved, isTaken, plainFill, fillOf, madeAt, driveFormatted, settled, formatDrive, aloneTests, formatTrack}
+use Rattle.model.specs.Commands.{isMoved, isTaken, fillOf, madeAt, driveFormatted, settled, formatDrive, aloneTests, formatTrack}
 use Rattle.control.specs.Leaves.{recordOf, silent}
 use Rattle.model.proofs.Judged.{judged-hit, judged-on, judged-none}
 use Rattle.commands.proofs.Endings.{ends-faulty, ends-well}
@@ -30,12 +28,6 @@ pub settled-by : (drives other : List Drive) (drive : ℕ) (entry : Drive) → e
 unfolding settled
 settled-by drives other drive entry ee eo = rw (← ee) eo
 
--- the fill as a call gives it: the first D bytes of 512
-pub fill-is : (b : Block) (p : Params) (c : Controller) (fill : List ℕ)
-    → part 0 (p .size) fill ≡ pick (fromBuffer b) (part 0 (p .size) (c .buffer)) (plainFill p) → take (p .size - 0) fill ≡ fillOf b p c
-unfolding fillOf
-fill-is b p c fill e = fill-lent (p .size) fill ∙ e
-
 module _ (b : Block) (p : Params) (c : Controller) (image : List ℕ) (outcome : Outcome) (t : Track) (et : t ≡ trackOf p (b .address)) where
   -- ---- Format Drive
   module _ (split : Bool) (es : split ≡ pairSplit p t image) where
@@ -47,13 +39,13 @@ module _ (b : Block) (p : Params) (c : Controller) (image : List ℕ) (outcome :
     drive-fails h eo = ends-faulty b c image _ outcome _ 0x1D (b .address) (judged-hit _ _ _ _ _ (is-split ∙ h)) eo
 
     pub drive-well : (others : List Drive) (entry : Drive) (fill left : List ℕ) → split ≡ false
-        → part 0 (p .size) fill ≡ pick (fromBuffer b) (part 0 (p .size) (c .buffer)) (plainFill p) → entry ≡ driveIn (c .drives) (b .drive)
+        → part 0 (p .size) fill ≡ fillOf b p (c .buffer) → entry ≡ driveIn (c .drives) (b .drive)
         → left ≡ driveFormatted b p (entry .config) (take (p .size - 0) fill) image → others ≡ set (c .drives) (b .drive) (settled (driveIn (c .drives) (b .drive)))
         → outcome ≡ goodOutcome (b .drive) 0 0 (recordOf (c .buffer) others) → silent outcome left ≡ formatDrive b p c image
     unfolding formatDrive driveAt withDrive
     drive-well others entry fill left h ef ee el ec eo =
         ends-well b c image _ outcome _ _ left (judged-on _ _ _ _ _ (is-split ∙ h) ∙ judged-none _)
-        (eo ∙ ap (λ (l : List Drive). goodOutcome (b .drive) 0 0 (recordOf (c .buffer) l)) ec) (el ∙ rw (ee, fill-is b p c fill ef))
+        (eo ∙ ap (λ (l : List Drive). goodOutcome (b .drive) 0 0 (recordOf (c .buffer) l)) ec) (el ∙ rw (ee, fill-lent (p .size) fill ∙ ef))
 
   -- ---- Format Track and Format Bad Track
   module _ (state : State) (fill : List ℕ) (old : State) (es : old ≡ stateOf p t image) (moved : Bool) (em : moved ≡ isMoved old) where

@@ -1,15 +1,19 @@
 -- What the format commands make of an image.
-use mathlib.Core.Path.{_≡_, refl, ap, _∙_}
+use mathlib.Core.Path.{_≡_, refl, sym, ap, _∙_}
+use mathlib.Core.Bool.{Bool, true, false, not, _&&_}
 use mathlib.Core.List.{List, _∷_, _++_}
 use Prim.Native.Nat.{ℕ, zero, suc, _+_, _-_, _≤_, _<_}
 use native.Mathlib.Omega.{arith}
 use lib.ListN.{length, take, replicate, length-append}
 use lib.Seq.{take-at}
+use Rattle.base.proofs.Decide.{pick-true, pick-false}
 use Rattle.base.specs.Part.{part, splice}
 use Rattle.base.proofs.Parts.{part-lent}
 use Rattle.geometry.specs.declared.params.Params.{Params}
 use Rattle.geometry.specs.declared.params.Track.{Track}
+use Rattle.geometry.specs.declared.medium.Medium.{Medium}
 use Rattle.geometry.specs.Params.{trackCount, trackOf}
+use Rattle.geometry.specs.Medium.{mediumOf, isFloppy}
 use Rattle.geometry.specs.Config.{labelRest}
 use Rattle.interleave.specs.Layout.{layoutOf}
 use Rattle.interleave.proofs.Layouts.{layout-length}
@@ -17,7 +21,8 @@ use Rattle.track.specs.declared.id.State.{State}
 use Rattle.track.specs.Image.{withTrack}
 use Rattle.track.specs.Format.{formatted, soundFrom}
 use Rattle.model.specs.declared.block.Block.{Block}
-use Rattle.model.specs.Commands.{plainFill, madeAt, driveFormatted}
+use Rattle.model.specs.Block.{fromBuffer}
+use Rattle.model.specs.Commands.{plainByte, plainFill, fillOf, madeAt, driveFormatted}
 
 -- ---- the fill
 take-replicate : (n m v : ℕ) → n ≤ m → take n (replicate m v) ≡ replicate n v
@@ -25,9 +30,29 @@ take-replicate zero m v h = refl
 take-replicate (suc n) zero v h = absurd (omega arith)
 take-replicate (suc n) (suc m) v h = ap (λ (l : List ℕ). v ∷ l) (take-replicate n m v (omega arith))
 
-pub plain-part : (p : Params) → p .size ≤ 512 → part 0 (p .size) (replicate 512 0x6C) ≡ plainFill p
+pub plain-part : (medium : Medium) (p : Params) (byte : ℕ) → p .size ≤ 512 → byte ≡ plainByte medium
+    → part 0 (p .size) (replicate 512 byte) ≡ plainFill medium p
 unfolding part plainFill
-plain-part p h = take-replicate (p .size) 512 0x6C h
+plain-part medium p byte h e = take-replicate (p .size) 512 byte h ∙ ap (replicate (p .size)) e
+
+-- as a call gives it for a drive
+pub plain-of : (drive : ℕ) (medium : Medium) (p : Params) (fill : List ℕ) → medium ≡ mediumOf drive → part 0 (p .size) fill ≡ plainFill medium p
+    → part 0 (p .size) fill ≡ plainFill (mediumOf drive) p
+plain-of drive medium p fill em ef = ef ∙ ap (λ (m : Medium). plainFill m p) em
+
+-- by control bit 5 and the drive's medium
+module _ (b : Block) (p : Params) (buffer : List ℕ) (medium : Medium) (em : medium ≡ mediumOf (b .drive)) (bit floppy taken : Bool)
+    (eb : bit ≡ fromBuffer b) (ef : floppy ≡ isFloppy medium) (et : taken ≡ (bit && not floppy)) where
+  asked : (fromBuffer b && not (isFloppy (mediumOf (b .drive)))) ≡ taken
+  asked = rw (← em, ← ef, ← eb) (sym et)
+
+  pub fill-taken : taken ≡ true → (fill : List ℕ) → fill ≡ buffer → part 0 (p .size) fill ≡ fillOf b p buffer
+  unfolding fillOf
+  fill-taken on fill is = ap (part 0 (p .size)) is ∙ sym (pick-true _ _ _ (asked ∙ on))
+
+  pub fill-plain : taken ≡ false → (fill : List ℕ) → part 0 (p .size) fill ≡ plainFill medium p → part 0 (p .size) fill ≡ fillOf b p buffer
+  unfolding fillOf
+  fill-plain off fill is = plain-of (b .drive) medium p fill em is ∙ sym (pick-false _ _ _ (asked ∙ off))
 
 -- ---- the layout lent: the first n of its 32 entries
 pub layout-lent : (n f : ℕ) (map : List ℕ) → f < n → map ≡ layoutOf n f ++ replicate (32 - n) n → take (n - 0) map ≡ layoutOf n f

@@ -11,6 +11,7 @@ use control::record::Ending;
 use control::record::failed;
 use control::record::good;
 use control::record::refused;
+use geometry::medium::medium_of;
 use geometry::params::Lba;
 use geometry::params::Params;
 use geometry::params::Track;
@@ -88,13 +89,13 @@ fn assign_faults(image: &[u8], p: Params, first: u8, a: Lba, alternate: Lba) -> 
     )
 }
 
-// A as moved to B, filled with 6Ch; B as taken by A.
+// A as moved to B, with the plain fill; B as taken by A.
 fn make_pair(image: &mut [u8], b: Block, p: Params, from: Track, to: Track, fill: &[u8])
     requires { ⌜ Fits p (now image) × (from .0 < trackCount p) × (to .0 < trackCount p) × (b .extra < p .sectors) × (length (now fill) ≡ p .size) ⌝ }
     ensures { λ _. ⌜ now (image .exit) ≡ assigned b p from to (now (fill .entry)) (now (image .entry)) ⌝ }
 {
     let size = p.size;
-    let plain = plain_fill(p);
+    let plain = plain_fill(medium_of(b.drive), p);
     make_at(image, b, p, from, State::Moved(to), &plain[0..size]);
     make_at(image, b, p, to, State::Taken(from), fill);
 }

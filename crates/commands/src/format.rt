@@ -10,6 +10,7 @@ use control::record::drive_at;
 use control::record::failed;
 use control::record::good;
 use control::record::with_drive;
+use geometry::medium::medium_of;
 use geometry::params::Params;
 use model::block::Block;
 use model::record::Drive;
@@ -20,6 +21,7 @@ ghost use mathlib.Core.Path.{_≡_};
 ghost use Prim.Native.Nat.{_<_};
 ghost use lib.ListN.{length, set};
 ghost use Rattle.geometry.specs.Params.{trackCount, trackOf};
+ghost use Rattle.geometry.specs.Medium.{mediumOf};
 ghost use Rattle.track.specs.declared.id.State.the-variants.{Sound, Bad};
 ghost use Rattle.track.specs.Id.{partnerOf};
 ghost use Rattle.track.specs.Image.{Fits};
@@ -95,7 +97,7 @@ pub fn format_sound(
     image: &mut [u8],
 ) -> Ending
     requires { ⌜ Fits p (now image) × (b .drive < 4) × (b .address .0 < 2097152) × (trackOf p (b .address) .0 < trackCount p) × (b .extra < p .sectors) × (length (now buffer) ≡ 512) ⌝ }
-    ensures { λ r. ⌜ silent (leftWith (now (buffer .entry)) r) (now (image .exit)) ≡ formatTrack b p Sound (fillOf b p (recordOf (now (buffer .entry)) drives)) (recordOf (now (buffer .entry)) drives) (now (image .entry)) ⌝ }
+    ensures { λ r. ⌜ silent (leftWith (now (buffer .entry)) r) (now (image .exit)) ≡ formatTrack b p Sound (fillOf b p (now (buffer .entry))) (recordOf (now (buffer .entry)) drives) (now (image .entry)) ⌝ }
 {
     let size = p.size;
     let fill = fill_of(b, p, buffer);
@@ -105,9 +107,9 @@ pub fn format_sound(
 // Format Bad Track.
 pub fn format_bad(drives: [Drive; 4], b: Block, p: Params, image: &mut [u8]) -> Ending
     requires { ⌜ Fits p (now image) × (b .drive < 4) × (b .address .0 < 2097152) × (trackOf p (b .address) .0 < trackCount p) × (b .extra < p .sectors) ⌝ }
-    ensures { λ r. ⌜ Ends r drives (now (image .exit)) (λ c. formatTrack b p Bad (plainFill p) c (now (image .entry))) ⌝ }
+    ensures { λ r. ⌜ Ends r drives (now (image .exit)) (λ c. formatTrack b p Bad (plainFill (mediumOf (b .drive)) p) c (now (image .entry))) ⌝ }
 {
     let size = p.size;
-    let fill = plain_fill(p);
+    let fill = plain_fill(medium_of(b.drive), p);
     format_track(drives, b, p, State::Bad, &fill[0..size], image)
 }

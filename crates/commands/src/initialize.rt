@@ -8,6 +8,7 @@ use geometry::config::Setting;
 use geometry::config::config_in;
 use geometry::config::label_holds;
 use geometry::config::setting_of;
+use geometry::medium::medium_of;
 use model::block::Block;
 use model::record::Drive;
 ghost use Prim.Native.Nat.{_≤_, _<_};
@@ -22,13 +23,14 @@ pub fn initialize(drives: [Drive; 4], b: Block, given: &[u8], image: &[u8]) -> E
 {
     let config = config_in(given);
     let drive = b.drive;
-    let setting = setting_of(config, image.len());
+    let medium = medium_of(drive);
+    let setting = setting_of(medium, config, image.len());
     match setting {
         Setting::Invalid => failed(drives, drive, 0x22, b.address, 0, 0),
         Setting::Valid(_) => {
             let entry = drive_at(drives, drive);
             let sense = entry.sense;
-            let holds = label_holds(image, config);
+            let holds = label_holds(medium, image, config);
             let next = Drive {
                 sense: sense,
                 config: config,

@@ -2,6 +2,10 @@
 use base::copy_bytes;
 use control::block::from_buffer;
 use control::buffer::put_front;
+use control::logic::both;
+use geometry::medium::Medium;
+use geometry::medium::is_floppy;
+use geometry::medium::medium_of;
 use geometry::params::Params;
 use geometry::params::Track;
 use interleave::layout;
@@ -13,34 +17,43 @@ ghost use mathlib.Core.Path.{_≡_};
 ghost use mathlib.Core.List.{_++_};
 ghost use Prim.Native.Nat.{_≤_, _<_};
 ghost use lib.ListN.{length};
-ghost use Rattle.base.specs.Pick.{pick};
 ghost use Rattle.base.specs.Part.{part, splice};
 ghost use Rattle.geometry.specs.Params.{trackCount, trackOf};
 ghost use Rattle.geometry.specs.Config.{labelRest};
 ghost use Rattle.track.specs.Id.{partnerOf};
 ghost use Rattle.track.specs.Image.{Fits};
-ghost use Rattle.model.specs.Block.{fromBuffer};
-ghost use Rattle.model.specs.Commands.{plainFill, madeAt, driveFormatted};
+ghost use Rattle.model.specs.Commands.{plainByte, plainFill, fillOf, madeAt, driveFormatted};
 
-// 512 bytes of 6Ch: the first D of them fill a sector.
-pub fn plain_fill(p: Params) -> [u8; 512]
-    requires { ⌜ p .size ≤ 512 ⌝ }
-    ensures { λ r. ⌜ (part 0 (p .size) r ≡ plainFill p) × (length r ≡ 512) ⌝ }
+// The byte of a medium's plain fill.
+fn plain_byte(medium: Medium) -> u8
+    ensures { λ r. ⌜ r ≡ plainByte medium ⌝ }
 {
-    [0x6C; 512]
+    match medium {
+        Medium::HardDisk => 0x6C,
+        Medium::Floppy => 0xE5,
+    }
+}
+
+// 512 of it: the first D of them fill a sector.
+pub fn plain_fill(medium: Medium, p: Params) -> [u8; 512]
+    requires { ⌜ p .size ≤ 512 ⌝ }
+    ensures { λ r. ⌜ (part 0 (p .size) r ≡ plainFill medium p) × (length r ≡ 512) ⌝ }
+{
+    [plain_byte(medium); 512]
 }
 
 // The first D bytes are what a format with this block fills sectors with.
 pub fn fill_of(b: Block, p: Params, buffer: &[u8]) -> [u8; 512]
     requires { ⌜ (p .size ≤ 512) × (length (now buffer) ≡ 512) ⌝ }
-    ensures { λ r. ⌜ (part 0 (p .size) r ≡ pick (fromBuffer b) (part 0 (p .size) (now (buffer .entry))) (plainFill p)) × (length r ≡ 512) ⌝ }
+    ensures { λ r. ⌜ (part 0 (p .size) r ≡ fillOf b p (now (buffer .entry))) × (length r ≡ 512) ⌝ }
 {
-    if from_buffer(b) {
+    let medium = medium_of(b.drive);
+    if both(from_buffer(b), !is_floppy(medium)) {
         let mut fill = [0u8; 512];
         copy_bytes(&mut fill, buffer);
         return fill;
     }
-    plain_fill(p)
+    plain_fill(medium, p)
 }
 
 // Formats one track with the block's interleave.

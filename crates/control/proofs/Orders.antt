@@ -10,6 +10,7 @@ use lib.Dec.{eqb, ltb}
 use borrow.Author.Tests.{eq-eqb, ne-eqb}
 use Rattle.base.specs.Pick.{pick}
 use Rattle.base.proofs.Decide.{pick-true, pick-false}
+use Rattle.geometry.specs.declared.medium.Medium.{Medium}
 use Rattle.geometry.specs.declared.config.Setting.{Setting}
 use Rattle.geometry.specs.declared.config.Setting.the-variants.{Valid, Invalid}
 use Rattle.geometry.specs.Config.{isValid}
@@ -19,7 +20,7 @@ use Rattle.model.specs.declared.verdict.Verdict.{Verdict}
 use Rattle.model.specs.declared.verdict.Verdict.the-variants.{Refused, Passed}
 use Rattle.model.specs.Block.{countOf}
 use Rattle.model.specs.Table.{entryOf}
-use Rattle.model.specs.Checks.{on, judged, controlWrong, testsWith, tests, sizeIn, bytesOf, lengthsWith, judge}
+use Rattle.model.specs.Checks.{on, judged, controlWrong, lacks, testsWith, tests, sizeIn, bytesOf, lengthsWith, judge}
 use Rattle.control.specs.declared.checks.Limits.{Limits}
 use Rattle.control.specs.Limits.{Legal, limitsWith, limitsOf}
 
@@ -63,12 +64,12 @@ unfolding judged testsWith limitsOf limitsWith pick
 limits-last e b pending Invalid after = refl
 limits-last e b pending (Valid p) after = refl
 
-module _ (b : Block) (present : Bool) (setting : Setting) (pending : Bool) (given area : ℕ) where
+module _ (b : Block) (medium : Medium) (present : Bool) (setting : Setting) (pending : Bool) (given area : ℕ) where
   -- The seven tests are the specification's.
   order-seven : (e : Entry)
       → judged
       (on (not (e .known)) 0x20 (b .address)
-      ∷ on (b .top || (e .address && controlWrong e (b .control))) 0x22 (b .address)
+      ∷ on (b .top || (lacks medium e || (e .address && controlWrong e (b .control)))) 0x22 (b .address)
       ∷ on (e .drive && not present) 0x04 (b .address)
       ∷ on (e .parameters && not (isValid setting)) 0x0A (b .address)
       ∷ on (limitsOf e b pending setting .interleave) 0x22 (b .address)
@@ -76,13 +77,14 @@ module _ (b : Block) (present : Bool) (setting : Setting) (pending : Bool) (give
       ∷ on (limitsOf e b pending setting .pending) 0x16 (b .address)
       ∷ [])
       (lengthsWith e b setting given area)
-      ≡ judged (tests e b (record { present = present; setting = setting; pending = pending })) (lengthsWith e b setting given area)
+      ≡ judged (tests e b (record { medium = medium; present = present; setting = setting; pending = pending })) (lengthsWith e b setting given area)
   unfolding judged tests
   order-seven e = rw (limits-last e b pending setting (lengthsWith e b setting given area)) refl
 
   -- What the code hands to `order` is what they ask.
-  pub judge-order : (e : Entry) (control checked wrong absent valid unset : Bool) (limits : Limits) (takes gives : ℕ) (verdict : Verdict)
-      → e ≡ entryOf (b .opcode) → control ≡ controlWrong e (b .control) → checked ≡ (e .address && control) → wrong ≡ (b .top || checked)
+  pub judge-order : (e : Entry) (lacked control checked off wrong absent valid unset : Bool) (limits : Limits) (takes gives : ℕ) (verdict : Verdict)
+      → e ≡ entryOf (b .opcode) → lacked ≡ lacks medium e → control ≡ controlWrong e (b .control)
+      → checked ≡ (e .address && control) → off ≡ (lacked || checked) → wrong ≡ (b .top || off)
       → absent ≡ (e .drive && not present) → valid ≡ isValid setting → unset ≡ (e .parameters && not valid)
       → limits ≡ limitsOf e b pending setting → takes ≡ bytesOf (e .takes) b setting → gives ≡ bytesOf (e .gives) b setting
       → verdict
@@ -96,7 +98,7 @@ module _ (b : Block) (present : Bool) (setting : Setting) (pending : Bool) (give
       ∷ on (limits .pending) 0x16 (b .address)
       ∷ [])
       (pick (ltb given takes) (Refused 2) (pick (ltb area gives) (Refused 3) Passed))
-      → verdict ≡ judge b (record { present = present; setting = setting; pending = pending }) given area
+      → verdict ≡ judge b (record { medium = medium; present = present; setting = setting; pending = pending }) given area
   unfolding judge lengthsWith
-  judge-order e control checked wrong absent valid unset limits takes gives verdict h₁ h₂ h₃ h₄ h₅ h₆ h₇ h₈ h₉ h₁₀ is =
-      is ∙ rw (h₁₀, h₉, h₈, h₇, h₆, h₅, h₄, h₃, h₂, h₁) (order-seven (entryOf (b .opcode)))
+  judge-order e lacked control checked off wrong absent valid unset limits takes gives verdict h₁ h₂ h₃ h₄ h₅ h₆ h₇ h₈ h₉ h₁₀ h₁₁ h₁₂ is =
+      is ∙ rw (h₁₂, h₁₁, h₁₀, h₉, h₈, h₇, h₆, h₅, h₄, h₃, h₂, h₁) (order-seven (entryOf (b .opcode)))

@@ -25,7 +25,7 @@ unfoldable pub rowFrom : Entry → Row
 rowFrom e = record {
   command = e .command;
   checks = bit (e .known) 1 + bit (e .drive) 2 + bit (e .parameters) 4 + bit (e .address) 8 + bit (e .fill) 16 + bit (e .interleave) 32
-      + bit (e .counted) 64 + bit (e .settled) 128 + bit (e .whole) 256;
+      + bit (e .counted) 64 + bit (e .settled) 128 + bit (e .whole) 256 + bit (e .hard) 512;
   takes = e .takes;
   gives = e .gives;
 }

@@ -20,6 +20,7 @@ entryFrom row = record {
   counted = has (row .checks) 64;
   settled = has (row .checks) 128;
   whole = has (row .checks) 256;
+  hard = has (row .checks) 512;
   takes = row .takes;
   gives = row .gives;
 }

@@ -3,6 +3,8 @@ use crate::block::count_of;
 use crate::logic::both;
 use crate::logic::either;
 use geometry::config::Setting;
+use geometry::medium::Medium;
+use geometry::medium::is_floppy;
 use geometry::params::Lba;
 use geometry::params::Params;
 use model::block::Block;
@@ -19,7 +21,7 @@ ghost use Rattle.geometry.specs.Params.{Within};
 ghost use Rattle.geometry.specs.Config.{isValid};
 ghost use Rattle.model.specs.declared.verdict.Verdict.the-variants.{Refused, Passed};
 ghost use Rattle.model.specs.Table.{entryOf};
-ghost use Rattle.model.specs.Checks.{on, judged, controlWrong, reach, sizeIn, bytesOf, judge};
+ghost use Rattle.model.specs.Checks.{on, judged, controlWrong, lacks, reach, sizeIn, bytesOf, judge};
 ghost use Rattle.control.specs.Limits.{Legal, limitsWith, limitsOf};
 
 // A control bit that is not defined.
@@ -34,6 +36,13 @@ fn control_wrong(e: Entry, control: u8) -> bool
         return !e.fill;
     }
     true
+}
+
+// A command that the drive lacks: some are for hard disks only.
+fn lacked(medium: Medium, e: Entry) -> bool
+    ensures { λ r. ⌜ r ≡ lacks medium e ⌝ }
+{
+    both(e.hard, is_floppy(medium))
 }
 
 fn is_valid(setting: Setting) -> bool
@@ -176,6 +185,7 @@ fn bytes_of(kind: Data, b: Block, setting: Setting) -> usize
 pub fn judge(
     e: Entry,
     b: Block,
+    medium: Medium,
     present: bool,
     setting: Setting,
     pending: bool,
@@ -183,14 +193,20 @@ pub fn judge(
     area: usize,
 ) -> Verdict
     requires { ⌜ (e ≡ entryOf (b .opcode)) × Legal setting × (b .address .0 < 2097152) ⌝ }
-    ensures { λ r. ⌜ r ≡ judge b (record { present = present; setting = setting; pending = pending }) given area ⌝ }
+    ensures { λ r. ⌜ r ≡ judge b (record { medium = medium; present = present; setting = setting; pending = pending }) given area ⌝ }
 {
     let takes = e.takes;
     let gives = e.gives;
     order(
         b.address,
         !e.known,
-        either(b.top, both(e.address, control_wrong(e, b.control))),
+        either(
+            b.top,
+            either(
+                lacked(medium, e),
+                both(e.address, control_wrong(e, b.control)),
+            ),
+        ),
         both(e.drive, !present),
         both(e.parameters, !is_valid(setting)),
         limits_of(e, b, setting, pending),

@@ -2,6 +2,7 @@
 use crate::sense::sense_of;
 use geometry::config::Setting;
 use geometry::config::setting_of;
+use geometry::medium::Medium;
 use geometry::params::Lba;
 use model::record::Answer;
 use model::record::Drive;
@@ -44,12 +45,12 @@ fn with_sense(drives: [Drive; 4], drive: u8, sense: [u8; 4]) -> [Drive; 4]
 }
 
 // A drive's parameters in force, judged anew with the image lent.
-pub fn setting_in(entry: Drive, image: usize) -> Setting
-    ensures { λ r. ⌜ r ≡ settingIn entry image ⌝ }
+pub fn setting_in(medium: Medium, entry: Drive, image: usize) -> Setting
+    ensures { λ r. ⌜ r ≡ settingIn medium entry image ⌝ }
 {
     if entry.known {
         let config = entry.config;
-        return setting_of(config, image);
+        return setting_of(medium, config, image);
     }
     Setting::Invalid
 }

@@ -27,6 +27,8 @@ const COUNTED: u16 = 64;
 const SETTLED: u16 = 128;
 // but not from track 0 on
 const WHOLE: u16 = 256;
+// hard disks only: 22h on a floppy
+const HARD: u16 = 512;
 
 const ON_DRIVE: u16 = KNOWN + DRIVE + PARAMETERS;
 
@@ -74,7 +76,7 @@ const TABLE: [Row; 18] = [
     },
     Row {
         command: Command::CheckTrack,
-        checks: ON_TRACK + INTERLEAVE,
+        checks: ON_TRACK + INTERLEAVE + HARD,
         takes: Data::Nothing,
         gives: Data::Nothing,
     },
@@ -113,7 +115,7 @@ const TABLE: [Row; 18] = [
     UNKNOWN,
     Row {
         command: Command::AssignAlternate,
-        checks: ON_TRACK + FILL + INTERLEAVE,
+        checks: ON_TRACK + FILL + INTERLEAVE + HARD,
         takes: Data::Alternate,
         gives: Data::Nothing,
     },
@@ -173,6 +175,7 @@ pub fn entry_of(opcode: u8) -> Entry
         counted: has(checks, COUNTED),
         settled: has(checks, SETTLED),
         whole: has(checks, WHOLE),
+        hard: has(checks, HARD),
         takes: takes,
         gives: gives,
     }

@@ -8,6 +8,7 @@ use Rattle.geometry.specs.declared.params.Params.{Params}
 use Rattle.geometry.specs.declared.config.Setting.{Setting}
 use Rattle.geometry.specs.declared.config.Setting.the-variants.{Valid}
 use Rattle.geometry.specs.Params.{trackCount, trackOf}
+use Rattle.geometry.specs.Medium.{mediumOf}
 use Rattle.geometry.proofs.Settings.{setting-within}
 use Rattle.track.specs.Image.{Fits}
 use Rattle.model.specs.declared.block.Block.{Block}
@@ -30,18 +31,18 @@ row b command is = row-of (b .opcode) ∙ ap (λ (k : Command). entryOf (opcodeF
 -- ---- lengths of data
 module _ {c : Controller} {b : Block} {given area size : ℕ} (ok : Admitted c b given area size) where
   takes : (command : Command) → entryOf (b .opcode) .command ≡ command
-      → bytesOf (entryOf (opcodeFor command) .takes) b (settingIn (driveAt c (b .drive)) size) ≤ given
+      → bytesOf (entryOf (opcodeFor command) .takes) b (settingIn (mediumOf (b .drive)) (driveAt c (b .drive)) size) ≤ given
   unfolding viewOf
   takes command is =
-      subst (λ (e : Entry). bytesOf (e .takes) b (settingIn (driveAt c (b .drive)) size) ≤ given) (row b command is)
-      (given-enough b (viewOf (driveAt c (b .drive)) size) given area (ok .passed))
+      subst (λ (e : Entry). bytesOf (e .takes) b (settingIn (mediumOf (b .drive)) (driveAt c (b .drive)) size) ≤ given) (row b command is)
+      (given-enough b (viewOf (mediumOf (b .drive)) (driveAt c (b .drive)) size) given area (ok .passed))
 
   gives : (command : Command) → entryOf (b .opcode) .command ≡ command
-      → bytesOf (entryOf (opcodeFor command) .gives) b (settingIn (driveAt c (b .drive)) size) ≤ area
+      → bytesOf (entryOf (opcodeFor command) .gives) b (settingIn (mediumOf (b .drive)) (driveAt c (b .drive)) size) ≤ area
   unfolding viewOf
   gives command is =
-      subst (λ (e : Entry). bytesOf (e .gives) b (settingIn (driveAt c (b .drive)) size) ≤ area) (row b command is)
-      (area-enough b (viewOf (driveAt c (b .drive)) size) given area (ok .passed))
+      subst (λ (e : Entry). bytesOf (e .gives) b (settingIn (mediumOf (b .drive)) (driveAt c (b .drive)) size) ≤ area) (row b command is)
+      (area-enough b (viewOf (mediumOf (b .drive)) (driveAt c (b .drive)) size) given area (ok .passed))
 
   pub sense-admits : entryOf (b .opcode) .command ≡ RequestSense → (b .drive < 4) × (4 ≤ area)
   unfolding entryOf opcodeFor bytesOf
@@ -66,12 +67,13 @@ OnTrack b p image =
     Fits p image × (b .drive < 4) × (b .address .0 < 2097152) × (trackOf p (b .address) .0 < trackCount p) × (b .extra < p .sectors)
 
 module _ {c : Controller} {b : Block} {given area : ℕ} (image : List ℕ) {p : Params} (ok : Admitted c b given area (length image))
-    (valid : settingIn (driveAt c (b .drive)) (length image) ≡ Valid p) where
+    (valid : settingIn (mediumOf (b .drive)) (driveAt c (b .drive)) (length image) ≡ Valid p) where
   pub fits : Fits p image
   unfolding settingIn
   fits =
+      let medium = mediumOf (b .drive) in
       let entry = driveAt c (b .drive) in
-      let w = setting-within (entry .config) (length image) p (setting-known entry (length image) p valid) in
+      let w = setting-within medium (entry .config) (length image) p (setting-known medium entry (length image) p valid) in
       record { within = w .0; long = w .1 }
 
   clear : (command : Command) → entryOf (b .opcode) .command ≡ command
@@ -79,7 +81,7 @@ module _ {c : Controller} {b : Block} {given area : ℕ} (image : List ℕ) {p :
   unfolding viewOf
   clear command is =
       subst (λ (e : Entry). Cleared e b p (driveAt c (b .drive) .pending) given) (row b command is)
-      (cleared b (viewOf (driveAt c (b .drive)) (length image)) given area (ok .passed) p valid)
+      (cleared b (viewOf (mediumOf (b .drive)) (driveAt c (b .drive)) (length image)) given area (ok .passed) p valid)
 
   on-track : (command : Command) → entryOf (b .opcode) .command ≡ command → entryOf (opcodeFor command) .address ≡ true
       → entryOf (opcodeFor command) .counted ≡ false → entryOf (opcodeFor command) .interleave ≡ true → OnTrack b p image
@@ -111,7 +113,7 @@ module _ {c : Controller} {b : Block} {given area : ℕ} (image : List ℕ) {p :
   assign-admits is = let t = on-track AssignAlternate is refl refl refl in (t .0, t .1, t .2, t .3, t .4, takes ok AssignAlternate is)
 
   -- a command on as many sectors as its count says
-  sectors-room : (room : ℕ) → countOf b * sizeIn (settingIn (driveAt c (b .drive)) (length image)) ≤ room → countOf b * p .size ≤ room
+  sectors-room : (room : ℕ) → countOf b * sizeIn (settingIn (mediumOf (b .drive)) (driveAt c (b .drive)) (length image)) ≤ room → countOf b * p .size ≤ room
   unfolding sizeIn
   sectors-room room h = subst (λ (s : Setting). countOf b * sizeIn s ≤ room) valid h
 

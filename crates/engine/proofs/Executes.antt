@@ -1,18 +1,20 @@
 -- A command from its block to what it leaves: by the verdict of the order of checks, then put together for the drive named.
 use mathlib.Core.Path.{_≡_, refl, sym, ap, _∙_}
 use mathlib.Core.Bool.{Bool, true, false}
-use mathlib.Core.List.{List, [], _++_}
+use mathlib.Core.List.{List, []}
 use Prim.Native.Nat.{ℕ, _<_}
 use native.Mathlib.Omega.{arith}
-use lib.ListN.{length}
-use lib.Dec.{eqb, leb}
+use lib.ListN.{length, getD, set}
+use lib.Dec.{leb}
 use borrow.Author.Tests.{eq-eqb, ne-eqb}
-use Rattle.base.proofs.Parts.{length-none, splice-none}
+use Rattle.base.proofs.Parts.{splice-none}
 use Rattle.base.specs.Pick.{pick}
 use Rattle.base.proofs.Decide.{pick-true, pick-false}
 use Rattle.geometry.specs.declared.params.Lba.{Lba}
+use Rattle.geometry.specs.declared.medium.Medium.{Medium}
 use Rattle.geometry.specs.declared.config.Setting.{Setting}
 use Rattle.geometry.specs.declared.config.Setting.the-variants.{Valid, Invalid}
+use Rattle.geometry.specs.Medium.{mediumOf}
 use Rattle.geometry.specs.Config.{byte}
 use Rattle.geometry.proofs.Settings.{setting-within}
 use Rattle.model.specs.declared.block.Block.{Block}
@@ -51,14 +53,14 @@ unfolding pick
 legal-pick true s l = l
 legal-pick false s l = λ p e. absurd (let z : _≡_ {A = ℕ} 0 1 = cc in omega arith)
 
-pub setting-legal : (entry : Drive) (image : ℕ) (s : Setting) → s ≡ settingIn entry image → Legal s
+pub setting-legal : (medium : Medium) (entry : Drive) (image : ℕ) (s : Setting) → s ≡ settingIn medium entry image → Legal s
 unfolding settingIn
-setting-legal entry image s is = rw is (legal-pick (entry .known) _ (λ p e. setting-within _ _ p e .0))
+setting-legal medium entry image s is = rw is (legal-pick (entry .known) _ (λ p e. setting-within medium _ _ p e .0))
 
--- the setting by the drive that was looked up
-pub setting-named : (drives : List Drive) (drive image : ℕ) (entry : Drive) (s : Setting) → entry ≡ driveIn drives drive → s ≡ settingIn entry image
-    → settingIn (driveIn drives drive) image ≡ s
-setting-named drives drive image entry s ee es = rw (es, ee)
+-- the setting by the medium and the drive that were looked up
+pub setting-named : (drives : List Drive) (drive image : ℕ) (medium : Medium) (entry : Drive) (s : Setting) → medium ≡ mediumOf drive
+    → entry ≡ driveIn drives drive → s ≡ settingIn medium entry image → settingIn (mediumOf drive) (driveIn drives drive) image ≡ s
+setting-named drives drive image medium entry s em ee es = rw (es, em, ee)
 
 -- lengths give a refusal, never a fault
 short-refused : (short small : Bool) (k : ℕ) (l : Lba) → pick short (Refused 2) (pick small (Refused 3) Passed) ≡ Faulty k l → ⊥
@@ -98,30 +100,30 @@ module _ (b : Block) (view : View) (given area : ℕ) (verdict : Verdict) (is : 
       (own .0, rw (own .1) h)
 
 -- what the code looks at is the drive's view
-pub view-is : (b : Block) (c : Controller) (image given area : ℕ) (entry : Drive) (s : Setting) (verdict : Verdict)
-    → entry ≡ driveIn (c .drives) (b .drive) → s ≡ settingIn entry image
-    → verdict ≡ judge b (record { present = leb 16 image; setting = s; pending = entry .pending }) given area
-    → verdict ≡ judge b (viewOf (driveAt c (b .drive)) image) given area
+pub view-is : (b : Block) (c : Controller) (image given area : ℕ) (medium : Medium) (entry : Drive) (s : Setting) (verdict : Verdict)
+    → medium ≡ mediumOf (b .drive) → entry ≡ driveIn (c .drives) (b .drive) → s ≡ settingIn medium entry image
+    → verdict ≡ judge b (record { medium = medium; present = leb 16 image; setting = s; pending = entry .pending }) given area
+    → verdict ≡ judge b (viewOf (mediumOf (b .drive)) (driveAt c (b .drive)) image) given area
 unfolding viewOf presentWith driveAt
-view-is b c image given area entry s verdict ee es is = is ∙ rw (es, ee)
+view-is b c image given area medium entry s verdict em ee es is = is ∙ rw (es, em, ee)
 
 -- a command that passes is admitted
 pub admitted : (b : Block) (c : Controller) (image given area : ℕ) (verdict : Verdict) → b .drive < 4 → b .address .0 < 2097152
-    → verdict ≡ judge b (viewOf (driveAt c (b .drive)) image) given area → verdict ≡ Passed → Admitted c b given area image
+    → verdict ≡ judge b (viewOf (mediumOf (b .drive)) (driveAt c (b .drive)) image) given area → verdict ≡ Passed → Admitted c b given area image
 admitted b c image given area verdict hd ha is e = record { drive = hd; address = ha; passed = sym is ∙ e }
 
 -- ---- what is left by the verdict
 module _ (b : Block) (given : List ℕ) (c : Controller) (area image : List ℕ) (verdict : Verdict)
-    (is : verdict ≡ judge b (viewOf (driveAt c (b .drive)) (length image)) (length given) (length area)) where
+    (is : verdict ≡ judge b (viewOf (mediumOf (b .drive)) (driveAt c (b .drive)) (length image)) (length given) (length area)) where
   obeyed-by : obey b given (length area) c image
       ≡ unless verdict b c image
-      (carryOut b (settingIn (driveAt c (b .drive)) (length image)) given c image (entryOf (b .opcode) .command))
+      (carryOut b (settingIn (mediumOf (b .drive)) (driveAt c (b .drive)) (length image)) given c image (entryOf (b .opcode) .command))
   unfolding obey
   obeyed-by = rw is
 
   left-by : (l : Left)
       → l ≡ leftBy (unless verdict b c image
-      (carryOut b (settingIn (driveAt c (b .drive)) (length image)) given c image (entryOf (b .opcode) .command))) area
+      (carryOut b (settingIn (mediumOf (b .drive)) (driveAt c (b .drive)) (length image)) given c image (entryOf (b .opcode) .command))) area
       → l ≡ leftBy (obey b given (length area) c image) area
   left-by l h = h ∙ ap (λ (f : Effect). leftBy f area) (sym obeyed-by)
 
@@ -135,7 +137,8 @@ module _ (b : Block) (given : List ℕ) (c : Controller) (area image : List ℕ)
   unfolding unless failed leftBy
   obey-failed outcome code at e eo = left-by _ (rw (e, eo, splice-none area))
 
-  pub obey-carried : (s : Setting) (command : Command) (l : Left) → verdict ≡ Passed → settingIn (driveIn (c .drives) (b .drive)) (length image) ≡ s
+  pub obey-carried : (s : Setting) (command : Command) (l : Left) → verdict ≡ Passed
+      → settingIn (mediumOf (b .drive)) (driveIn (c .drives) (b .drive)) (length image) ≡ s
       → entryOf (b .opcode) .command ≡ command → l ≡ leftBy (carryOut b s given c image command) area → l ≡ leftBy (obey b given (length area) c image) area
   unfolding unless driveAt
   obey-carried s command l e es ek h = left-by l (rw (e, es, ek) h)
@@ -146,42 +149,22 @@ unfolding blockOf
 block-fields bytes b e below = rw e (omega arith, omega (arith, below 2, below 3))
 
 -- ---- what a call leaves, put together
-left-put : (drive : ℕ) (effect : Effect) (area image0 image1 : List ℕ) (l : Left) → l ≡ leftBy effect area
-    → resultNow (l .outcome) (l .area) (pick (eqb drive 0) (l .image) image0) (pick (eqb drive 1) (l .image) image1)
-    ≡ left drive effect area image0 image1
+left-put : (drive : ℕ) (effect : Effect) (area : List ℕ) (images : List (List ℕ)) (l : Left) → l ≡ leftBy effect area
+    → resultNow (l .outcome) (l .area) (set images drive (l .image)) ≡ left drive effect area images
 unfolding left leftBy
-left-put drive effect area image0 image1 l e = rw e
+left-put drive effect area images l e = rw e
 
--- ---- the image of the drive that is named
-module _ (b : Block) (given : List ℕ) (c : Controller) (area image0 image1 : List ℕ) (outcome : Outcome) (after image : List ℕ) where
-  -- from what the command leaves on the image of its drive
-  on-own : (own left0 left1 : List ℕ) → own ≡ imageOf (b .drive) image0 image1
-      → left0 ≡ pick (eqb (b .drive) 0) image image0 → left1 ≡ pick (eqb (b .drive) 1) image image1
-      → leftNow outcome after image ≡ leftBy (obey b given (length area) c own) area → resultNow outcome after left0 left1 ≡ onImages b given c area image0 image1
-  on-own own left0 left1 e e₀ e₁ h =
-      let effect = obey b given (length area) c (imageOf (b .drive) image0 image1) in
-      let is : leftNow outcome after image ≡ leftBy effect area = rw (← e) h in
-      rw (e₀, e₁) (left-put (b .drive) effect area image0 image1 _ is)
+-- on the image of drive k, from what the command leaves there
+pub on-image : (b : Block) (given : List ℕ) (c : Controller) (area : List ℕ) (images : List (List ℕ)) (outcome : Outcome) (after image : List ℕ) (k : ℕ)
+    → b .drive ≡ k → leftNow outcome after image ≡ leftBy (obey b given (length area) c (getD images k [])) area
+    → resultNow outcome after (set images k image) ≡ onImages b given c area images
+unfolding imageOf
+on-image b given c area images outcome after image k e h =
+    left-put k _ area images _ h ∙ ap (λ (n : ℕ). left n (obey b given (length area) c (imageOf n images)) area images) (sym e)
 
-  pub on-first : b .drive ≡ 0 → leftNow outcome after image ≡ leftBy (obey b given (length area) c image0) area
-      → resultNow outcome after image image1 ≡ onImages b given c area image0 image1
-  unfolding imageOf pick
-  on-first h = on-own image0 image image1 (rw h) (rw h) (rw h)
-
-  pub on-second : b .drive ≡ 1 → leftNow outcome after image ≡ leftBy (obey b given (length area) c image1) area
-      → resultNow outcome after image0 image ≡ onImages b given c area image0 image1
-  unfolding imageOf pick
-  on-second h = on-own image1 image0 image (rw h) (rw h) (rw h)
-
-  -- what the command does to an image of no bytes is dropped
-  pub on-none : (b .drive ≡ 0 → ⊥) → (b .drive ≡ 1 → ⊥) → length image ≡ 0 → leftNow outcome after image ≡ leftBy (obey b given (length area) c []) area
-      → resultNow outcome after (image ++ image0) image1 ≡ onImages b given c area image0 image1
-  unfolding imageOf
-  on-none h₀ h₁ none =
-      let n₀ = ne-eqb (b .drive) 0 h₀ in
-      let n₁ = ne-eqb (b .drive) 1 h₁ in
-      on-own [] (image ++ image0) image1 (rw (pick-false _ _ _ n₀, pick-false _ _ _ n₁))
-      (rw (length-none image none, pick-false _ _ _ n₀)) (rw (pick-false _ _ _ n₁))
+-- the fourth drive is none of the first three
+pub fourth : (drive : ℕ) → drive < 4 → (drive ≡ 0 → ⊥) → (drive ≡ 1 → ⊥) → (drive ≡ 2 → ⊥) → drive ≡ 3
+fourth drive h n₀ n₁ n₂ = omega arith
 
 -- ---- the block
 -- a refusal by its answer
@@ -189,13 +172,13 @@ pub bare-is : (c : Controller) (number : ℕ) (answer : Answer) → answer ≡ b
 unfolding bareOutcome
 bare-is c number answer e = rw e refl
 
-module _ (c : Controller) (block given area image0 image1 : List ℕ) where
+module _ (c : Controller) (block given area : List ℕ) (images : List (List ℕ)) where
   pub execute-refused : (outcome : Outcome) → (length block ≡ 6 → ⊥) → outcome ≡ bareOutcome 1 c
-      → resultNow outcome area image0 image1 ≡ execute c block given area image0 image1
+      → resultNow outcome area images ≡ execute c block given area images
   unfolding execute
   execute-refused outcome h e = rw (pick-false _ _ _ (ne-eqb _ _ h), e)
 
-  pub execute-six : length block ≡ 6 → (b : Block) → b ≡ blockOf block → (result : Result) → result ≡ onImages b given c area image0 image1
-      → result ≡ execute c block given area image0 image1
+  pub execute-six : length block ≡ 6 → (b : Block) → b ≡ blockOf block → (result : Result) → result ≡ onImages b given c area images
+      → result ≡ execute c block given area images
   unfolding execute
   execute-six six b eb result h = rw (pick-true _ _ _ (eq-eqb _ _ six), ← eb) h

@@ -2,6 +2,7 @@
 use Prim.Native.Nat.{ℕ, _<_}
 use mathlib.Core.Path.{_≡_}
 use mathlib.Core.List.{List}
+use Rattle.geometry.specs.Medium.{mediumOf}
 use Rattle.model.specs.declared.block.Block.{Block}
 use Rattle.model.specs.declared.record.Controller.{Controller}
 use Rattle.model.specs.declared.record.Outcome.{Outcome}
@@ -14,7 +15,7 @@ use Rattle.model.specs.Engine.{viewOf, Result}
 pub record Admitted (c : Controller) (b : Block) (given area image : ℕ) : Type 0 where
   pub drive : b .drive < 4
   pub address : b .address .0 < 2097152
-  pub passed : judge b (viewOf (driveAt c (b .drive)) image) given area ≡ Passed
+  pub passed : judge b (viewOf (mediumOf (b .drive)) (driveAt c (b .drive)) image) given area ≡ Passed
 
-abbrev pub resultNow : Outcome → (area image0 image1 : List ℕ) → Result
-resultNow outcome area image0 image1 = record { outcome = outcome; area = area; image0 = image0; image1 = image1 }
+abbrev pub resultNow : Outcome → (area : List ℕ) → (images : List (List ℕ)) → Result
+resultNow outcome area images = record { outcome = outcome; area = area; images = images }

@@ -21,6 +21,7 @@ use control::record::refused;
 use control::record::setting_in;
 use control::table::entry_of;
 use geometry::config::Setting;
+use geometry::medium::medium_of;
 use geometry::params::Params;
 use model::block::Block;
 use model::record::Controller;
@@ -32,10 +33,11 @@ ghost use mathlib.Core.Path.{_≡_};
 ghost use Prim.Native.Nat.{_<_};
 ghost use lib.ListN.{length};
 ghost use Rattle.geometry.specs.declared.config.Setting.the-variants.{Valid, Invalid};
+ghost use Rattle.geometry.specs.Medium.{mediumOf};
 ghost use Rattle.model.specs.Table.{entryOf};
 ghost use Rattle.model.specs.Record.{driveIn, settingIn};
 ghost use Rattle.model.specs.Commands.{carryOut};
-ghost use Rattle.model.specs.Engine.{obey, onImages, execute};
+ghost use Rattle.model.specs.Engine.{obey, imagesOf, onImages, execute};
 ghost use Rattle.control.specs.Leaves.{recordOf, leftWith, leftBy, leftNow};
 ghost use Rattle.engine.specs.Steps.{Admitted, resultNow};
 
@@ -50,7 +52,7 @@ fn with_parameters(
     image: &mut [u8],
     command: Command,
 ) -> Ending
-    requires { ⌜ Admitted (recordOf (now buffer) drives) b (length (now given)) (length (now area)) (length (now image)) × (entryOf (b .opcode) .command ≡ command) × (settingIn (driveIn drives (b .drive)) (length (now image)) ≡ Valid p) × (length (now buffer) ≡ 512) ⌝ }
+    requires { ⌜ Admitted (recordOf (now buffer) drives) b (length (now given)) (length (now area)) (length (now image)) × (entryOf (b .opcode) .command ≡ command) × (settingIn (mediumOf (b .drive)) (driveIn drives (b .drive)) (length (now image)) ≡ Valid p) × (length (now buffer) ≡ 512) ⌝ }
     ensures { λ r. ⌜ leftNow (leftWith (now (buffer .exit)) r) (now (area .exit)) (now (image .exit)) ≡ leftBy (carryOut b (Valid p) (now (given .entry)) (recordOf (now (buffer .entry)) drives) (now (image .entry)) command) (now (area .entry)) ⌝ }
 {
     let drive = b.drive;
@@ -117,7 +119,7 @@ fn carry_out(
     image: &mut [u8],
     command: Command,
 ) -> Ending
-    requires { ⌜ Admitted (recordOf (now buffer) drives) b (length (now given)) (length (now area)) (length (now image)) × (entryOf (b .opcode) .command ≡ command) × (settingIn (driveIn drives (b .drive)) (length (now image)) ≡ setting) × (length (now buffer) ≡ 512) ⌝ }
+    requires { ⌜ Admitted (recordOf (now buffer) drives) b (length (now given)) (length (now area)) (length (now image)) × (entryOf (b .opcode) .command ≡ command) × (settingIn (mediumOf (b .drive)) (driveIn drives (b .drive)) (length (now image)) ≡ setting) × (length (now buffer) ≡ 512) ⌝ }
     ensures { λ r. ⌜ leftNow (leftWith (now (buffer .exit)) r) (now (area .exit)) (now (image .exit)) ≡ leftBy (carryOut b setting (now (given .entry)) (recordOf (now (buffer .entry)) drives) (now (image .entry)) command) (now (area .entry)) ⌝ }
 {
     match setting {
@@ -142,10 +144,12 @@ fn obey(
     let row = entry_of(b.opcode);
     let command = row.command;
     let entry = drive_at(drives, drive);
-    let setting = setting_in(entry, image.len());
+    let medium = medium_of(drive);
+    let setting = setting_in(medium, entry, image.len());
     let verdict = judge(
         row,
         b,
+        medium,
         16 <= image.len(),
         setting,
         entry.pending,
@@ -168,9 +172,12 @@ fn on_images(
     area: &mut [u8],
     image0: &mut [u8],
     image1: &mut [u8],
+    image2: &mut [u8],
+    image3: &mut [u8],
 ) -> Ending
     requires { ⌜ (b .drive < 4) × (b .address .0 < 2097152) × (length (now buffer) ≡ 512) ⌝ }
-    ensures { λ r. ⌜ resultNow (leftWith (now (buffer .exit)) r) (now (area .exit)) (now (image0 .exit)) (now (image1 .exit)) ≡ onImages b (now (given .entry)) (recordOf (now (buffer .entry)) drives) (now (area .entry)) (now (image0 .entry)) (now (image1 .entry)) ⌝ }
+    ensures { λ r. ⌜ resultNow (leftWith (now (buffer .exit)) r) (now (area .exit)) (imagesOf (now (image0 .exit)) (now (image1 .exit)) (now (image2 .exit)) (now (image3 .exit)))
+        ≡ onImages b (now (given .entry)) (recordOf (now (buffer .entry)) drives) (now (area .entry)) (imagesOf (now (image0 .entry)) (now (image1 .entry)) (now (image2 .entry)) (now (image3 .entry))) ⌝ }
 {
     if b.drive == 0 {
         return obey(drives, b, buffer, given, area, image0);
@@ -178,8 +185,10 @@ fn on_images(
     if b.drive == 1 {
         return obey(drives, b, buffer, given, area, image1);
     }
-    // drives 2 and 3 are absent: an image of no bytes
-    obey(drives, b, buffer, given, area, &mut image0[0..0])
+    if b.drive == 2 {
+        return obey(drives, b, buffer, given, area, image2);
+    }
+    obey(drives, b, buffer, given, area, image3)
 }
 
 // A command: any block, given data, data area and images.
@@ -190,8 +199,11 @@ pub fn execute(
     area: &mut [u8],
     image0: &mut [u8],
     image1: &mut [u8],
+    image2: &mut [u8],
+    image3: &mut [u8],
 ) -> Outcome
-    ensures { λ r. ⌜ resultNow r (now (area .exit)) (now (image0 .exit)) (now (image1 .exit)) ≡ execute c (now (block .entry)) (now (given .entry)) (now (area .entry)) (now (image0 .entry)) (now (image1 .entry)) ⌝ }
+    ensures { λ r. ⌜ resultNow r (now (area .exit)) (imagesOf (now (image0 .exit)) (now (image1 .exit)) (now (image2 .exit)) (now (image3 .exit)))
+        ≡ execute c (now (block .entry)) (now (given .entry)) (now (area .entry)) (imagesOf (now (image0 .entry)) (now (image1 .entry)) (now (image2 .entry)) (now (image3 .entry))) ⌝ }
 {
     if block.len() != 6 {
         return Outcome {
@@ -210,6 +222,8 @@ pub fn execute(
         area,
         image0,
         image1,
+        image2,
+        image3,
     );
     let after = ending.drives;
     let answer = ending.answer;

@@ -10,54 +10,51 @@ use Rattle.hex.specs.Line.{lineNow, accepted, started}
 use Rattle.hex.proofs.Rooms.{accepted-room}
 
 -- The line under way fits the slice of its bytes.
-abbrev pub LineFits : Line → (bytes : List ℕ) → Type 0
-LineFits line bytes = (line .high < 16) × (line .count ≤ length bytes)
+abbrev pub LineFits : Line → (bytes : ℕ) → Type 0
+LineFits line bytes = (line .high < 16) × (line .count ≤ bytes)
 
-pub record Going (bytes₀ area₀ image0₀ image1₀ text₀ bytes area image0 image1 text : List ℕ) (line : Line) : Type 0 where
-  pub bytes-long : length bytes ≡ length bytes₀
-  pub area-long : length area ≡ length area₀
-  pub image0-long : length image0 ≡ length image0₀
-  pub image1-long : length image1 ≡ length image1₀
-  pub text-long : length text ≡ length text₀
-  pub text-room : 7 + 2 * length area ≤ length text
-  pub line-fits : LineFits line bytes
+-- The lengths of the slices that a session is lent.
+pub record Lengths : Type 0 where
+  pub bytes : ℕ
+  pub area : ℕ
+  pub image0 : ℕ
+  pub image1 : ℕ
+  pub image2 : ℕ
+  pub image3 : ℕ
+  pub text : ℕ
 
-pub going-first : (bytes area image0 image1 text : List ℕ) (line : Line)
-    → (7 + 2 * length area ≤ length text) × (line .high < 16) × (line .count ≤ length bytes)
-    → Going bytes area image0 image1 text bytes area image0 image1 text line
-going-first bytes area image0 image1 text line pre = record {
-  bytes-long = refl;
-  area-long = refl;
-  image0-long = refl;
-  image1-long = refl;
-  text-long = refl;
-  text-room = pre .0;
-  line-fits = (pre .1, pre .2);
+abbrev pub lengths : (bytes area image0 image1 image2 image3 text : List ℕ) → Lengths
+lengths bytes area image0 image1 image2 image3 text = record {
+  bytes = length bytes;
+  area = length area;
+  image0 = length image0;
+  image1 = length image1;
+  image2 = length image2;
+  image3 = length image3;
+  text = length text;
 }
 
-module _ {bytes₀ area₀ image0₀ image1₀ text₀ bytes area image0 image1 text : List ℕ} {line : Line}
-    (g : Going bytes₀ area₀ image0₀ image1₀ text₀ bytes area image0 image1 text line) where
-  -- Whatever keeps the lengths and leaves a line that fits.
-  pub going-on : (bytes′ area′ image0′ image1′ text′ : List ℕ) (line′ : Line) → length bytes′ ≡ length bytes → length area′ ≡ length area
-      → length image0′ ≡ length image0 → length image1′ ≡ length image1 → length text′ ≡ length text
-      → LineFits line′ bytes′ → Going bytes₀ area₀ image0₀ image1₀ text₀ bytes′ area′ image0′ image1′ text′ line′
-  going-on bytes′ area′ image0′ image1′ text′ line′ b a i j t l = record {
-    bytes-long = b ∙ g .bytes-long;
-    area-long = a ∙ g .area-long;
-    image0-long = i ∙ g .image0-long;
-    image1-long = j ∙ g .image1-long;
-    text-long = t ∙ g .text-long;
-    text-room = let r = g .text-room in omega arith;
-    line-fits = l;
-  }
+pub record Going (first now : Lengths) (line : Line) : Type 0 where
+  pub same : now ≡ first
+  pub text-room : 7 + 2 * now .area ≤ now .text
+  pub line-fits : LineFits line (now .bytes)
+
+pub going-first : {now : Lengths} {line : Line} → (7 + 2 * now .area ≤ now .text) × (line .high < 16) × (line .count ≤ now .bytes)
+    → Going now now line
+going-first pre = record { same = refl; text-room = pre .0; line-fits = (pre .1, pre .2) }
+
+-- Whatever keeps the lengths and leaves a line that fits.
+pub going-on : {first now now′ : Lengths} {line line′ : Line} → Going first now line → now′ ≡ now → LineFits line′ (now′ .bytes)
+    → Going first now′ line′
+going-on g e fits = record { same = e ∙ g .same; text-room = rw e (g .text-room); line-fits = fits }
 
 -- A line that has not begun fits any slice.
-pub started-fits : (bytes : List ℕ) (line : Line) → line ≡ started → LineFits line bytes
-started-fits bytes line e = rw e (omega arith, omega arith)
+pub started-fits : {bytes : ℕ} {line : Line} → line ≡ started → LineFits line bytes
+started-fits e = rw e (omega arith, omega arith)
 
 -- With one character more a line still fits.
 pub accepted-fits : (line r line′ : Line) (bytes b bytes′ : List ℕ) (c : ℕ) → line .count ≤ length bytes
-    → (lineNow r b ≡ accepted (lineNow line bytes) c) × (r .high < 16) → line′ ≡ r → bytes′ ≡ b → LineFits line′ bytes′
+    → (lineNow r b ≡ accepted (lineNow line bytes) c) × (r .high < 16) → line′ ≡ r → bytes′ ≡ b → LineFits line′ (length bytes′)
 accepted-fits line r line′ bytes b bytes′ c h e l m =
     let count : r .count ≡ accepted (lineNow line bytes) c .line .count = ap (λ x. x .line .count) (e .0) in
     let long : length b ≡ length (accepted (lineNow line bytes) c .bytes) = ap (λ x. length (x .bytes)) (e .0) in

@@ -1,5 +1,5 @@
-// Reads frames, one a line of hex digits, from standard input and prints an answer a line. The two drives are zero images of
-// 25,360 bytes; the data area has 1,024.
+// Reads frames, one a line of hex digits, from standard input and prints an answer a line. Drives 0 and 1 are zero images of
+// 25,360 bytes, drives 2 and 3 empty ones; the data area has 1,024 bytes.
 use engine::reset::fresh;
 use hex::line::Line;
 use hex::line::accept;
@@ -32,11 +32,13 @@ fn say(
     area: &mut [u8],
     image0: &mut [u8],
     image1: &mut [u8],
+    image2: &mut [u8],
+    image3: &mut [u8],
     text: &mut [u8],
 ) -> Controller
     requires { ⌜ (7 + 2 * length (now area) ≤ length (now text)) × (line .count ≤ length (now bytes)) ⌝ }
 {
-    let told = answer_line(c, line, bytes, area, image0, image1, text);
+    let told = answer_line(c, line, bytes, area, image0, image1, image2, image3, text);
     let controller = told.controller;
     let end = told.length;
     io::write_all(STDOUT, &text[0..end]);
@@ -51,6 +53,8 @@ fn feed(
     area: &mut [u8],
     image0: &mut [u8],
     image1: &mut [u8],
+    image2: &mut [u8],
+    image3: &mut [u8],
     text: &mut [u8],
 ) -> Session
     requires { ⌜ (7 + 2 * length (now area) ≤ length (now text)) × (session .line .high < 16) × (session .line .count ≤ length (now bytes)) ⌝ }
@@ -62,7 +66,17 @@ fn feed(
     while i < input.len() {
         let c = input[i];
         if c == LINE_FEED {
-            controller = say(controller, line, bytes, area, image0, image1, text);
+            controller = say(
+                controller,
+                line,
+                bytes,
+                area,
+                image0,
+                image1,
+                image2,
+                image3,
+                text,
+            );
             line = start();
         } else {
             line = accept(line, bytes, c);
@@ -104,6 +118,8 @@ fn converse(
     area: &mut [u8],
     image0: &mut [u8],
     image1: &mut [u8],
+    image2: &mut [u8],
+    image3: &mut [u8],
     text: &mut [u8],
 ) -> Session
     requires { ⌜ (7 + 2 * length (now area) ≤ length (now text)) × (first .line .high < 16) × (first .line .count ≤ length (now bytes)) ⌝ }
@@ -116,7 +132,17 @@ fn converse(
         if n == 0 {
             return session;
         }
-        session = feed(session, &input[0..n], bytes, area, image0, image1, text);
+        session = feed(
+            session,
+            &input[0..n],
+            bytes,
+            area,
+            image0,
+            image1,
+            image2,
+            image3,
+            text,
+        );
         turns -= 1;
     }
     session
@@ -125,12 +151,14 @@ fn converse(
 fn main() {
     let mut image0 = [0u8; 25360];
     let mut image1 = [0u8; 25360];
+    let mut image2 = [0u8; 0];
+    let mut image3 = [0u8; 0];
     let mut area = [0u8; 1024];
     let mut bytes = [0u8; 1030];
     let mut text = [0u8; 2055];
     let mut input = [0u8; 4096];
     let first = Session {
-        controller: fresh(&image0, &image1),
+        controller: fresh(&image0, &image1, &image2, &image3),
         line: start(),
     };
     let last = converse(
@@ -140,6 +168,8 @@ fn main() {
         &mut area,
         &mut image0,
         &mut image1,
+        &mut image2,
+        &mut image3,
         &mut text,
     );
     let line = last.line;
@@ -153,6 +183,8 @@ fn main() {
             &mut area,
             &mut image0,
             &mut image1,
+            &mut image2,
+            &mut image3,
             &mut text,
         );
     }

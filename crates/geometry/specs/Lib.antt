@@ -1,2 +1,3 @@
 pub mod Params
+pub mod Medium
 pub mod Config

@@ -1,4 +1,8 @@
 // A drive's ten configuration bytes, and the label that holds them.
+use crate::medium::Medium;
+use crate::medium::Ranges;
+use crate::medium::is_in;
+use crate::medium::ranges_of;
 use crate::params::Params;
 use base::copy_bytes;
 use base::same_bytes;
@@ -7,7 +11,7 @@ ghost use Prim.Native.Nat.{_+_, _*_, _≤_, _<_};
 ghost use lib.ListN.{length};
 ghost use Rattle.base.specs.Part.{part};
 ghost use Rattle.geometry.specs.Params.{Within};
-ghost use Rattle.geometry.specs.Config.{sizeFor, fittedTo, settingBy, settingOf, labelSetting, labelHolds};
+ghost use Rattle.geometry.specs.Config.{sizeFor, paramsOf, fittedTo, fieldsIn, settingBy, settingOf, labelSetting, labelHolds};
 
 // What a configuration gives with an image of some length.
 pub enum Setting {
@@ -21,8 +25,12 @@ pub struct Size {
     pub sectors: usize,
 }
 
-// By byte 4 of the configuration, from 1 on.
-const SIZES: [Size; 2] = [
+// By byte 4 of the configuration.
+const SIZES: [Size; 3] = [
+    Size {
+        bytes: 128,
+        sectors: 16,
+    },
     Size {
         bytes: 256,
         sectors: 32,
@@ -34,11 +42,10 @@ const SIZES: [Size; 2] = [
 ];
 
 fn size_for(byte: u8) -> Size
-    requires { ⌜ (1 ≤ byte) × (byte ≤ 2) ⌝ }
+    requires { ⌜ byte ≤ 2 ⌝ }
     ensures { λ r. ⌜ r ≡ sizeFor byte ⌝ }
 {
-    let row = (byte - 1) as usize;
-    SIZES[row]
+    SIZES[byte as usize]
 }
 
 // A number of two bytes, high byte first.
@@ -46,6 +53,18 @@ fn two_bytes(high: u8, low: u8) -> u32
     ensures { λ r. ⌜ r ≡ high * 256 + low ⌝ }
 {
     (high as u32) * 256 + (low as u32)
+}
+
+// Parameters of a size.
+fn sized(cylinders: u32, heads: u8, s: Size) -> Params
+    ensures { λ r. ⌜ r ≡ paramsOf cylinders heads s ⌝ }
+{
+    Params {
+        cylinders: cylinders,
+        heads: heads as u32,
+        sectors: s.sectors,
+        size: s.bytes,
+    }
 }
 
 // The parameters, if the image is long enough for them.
@@ -59,54 +78,52 @@ fn fitted(p: Params, image: usize) -> Setting
     Setting::Valid(p)
 }
 
-// The decision on a configuration's fields.
-fn setting_by(cylinders: u32, heads: u8, step: u8, size: u8, burst: u8, image: usize) -> Setting
-    ensures { λ r. ⌜ r ≡ settingBy cylinders heads step size burst image ⌝ }
+// Whether the fields of a configuration are in their ranges.
+fn fields_in(ranges: Ranges, cylinders: u32, heads: u8, step: u8, size: u8, burst: u8) -> bool
+    ensures { λ r. ⌜ r ≡ fieldsIn ranges cylinders heads step size burst ⌝ }
 {
-    if cylinders < 1 {
-        return Setting::Invalid;
+    if !is_in(ranges.cylinders, cylinders) {
+        return false;
     }
-    if 1024 < cylinders {
-        return Setting::Invalid;
+    if !is_in(ranges.heads, heads as u32) {
+        return false;
     }
-    if heads < 1 {
-        return Setting::Invalid;
+    if !is_in(ranges.step, (step / 16) as u32) {
+        return false;
     }
-    if 7 < heads {
-        return Setting::Invalid;
+    if !is_in(ranges.nibble, (step % 16) as u32) {
+        return false;
     }
-    if 4 < step / 16 {
-        return Setting::Invalid;
+    if !is_in(ranges.size, size as u32) {
+        return false;
     }
-    if 1 < step % 16 {
-        return Setting::Invalid;
-    }
-    if size < 1 {
-        return Setting::Invalid;
-    }
-    if 2 < size {
-        return Setting::Invalid;
-    }
-    if 11 < burst {
-        return Setting::Invalid;
-    }
-    let s = size_for(size);
-    fitted(
-        Params {
-            cylinders: cylinders,
-            heads: heads as u32,
-            sectors: s.sectors,
-            size: s.bytes,
-        },
-        image,
-    )
+    is_in(ranges.burst, burst as u32)
 }
 
-// The parameters of a configuration, if it is valid with an image of this length.
-pub fn setting_of(config: [u8; 10], image: usize) -> Setting
-    ensures { λ r. ⌜ r ≡ settingOf config image ⌝ }
+// The decision on a configuration's fields.
+fn setting_by(
+    medium: Medium,
+    cylinders: u32,
+    heads: u8,
+    step: u8,
+    size: u8,
+    burst: u8,
+    image: usize,
+) -> Setting
+    ensures { λ r. ⌜ r ≡ settingBy medium cylinders heads step size burst image ⌝ }
+{
+    if !fields_in(ranges_of(medium), cylinders, heads, step, size, burst) {
+        return Setting::Invalid;
+    }
+    fitted(sized(cylinders, heads, size_for(size)), image)
+}
+
+// The parameters of a configuration, if it is valid on this medium with an image of this length.
+pub fn setting_of(medium: Medium, config: [u8; 10], image: usize) -> Setting
+    ensures { λ r. ⌜ r ≡ settingOf medium config image ⌝ }
 {
     setting_by(
+        medium,
         two_bytes(config[0], config[1]),
         config[2],
         config[3],
@@ -127,8 +144,8 @@ pub fn config_in(bytes: &[u8]) -> [u8; 10]
 }
 
 // The parameters of an image's label, if it is valid. An image under 16 bytes has none.
-pub fn label_setting(image: &[u8]) -> Setting
-    ensures { λ r. ⌜ r ≡ labelSetting (now (image .entry)) ⌝ }
+pub fn label_setting(medium: Medium, image: &[u8]) -> Setting
+    ensures { λ r. ⌜ r ≡ labelSetting medium (now (image .entry)) ⌝ }
 {
     if image.len() < 16 {
         return Setting::Invalid;
@@ -136,14 +153,14 @@ pub fn label_setting(image: &[u8]) -> Setting
     if !same_bytes(&image[10..16], &[0u8; 6]) {
         return Setting::Invalid;
     }
-    setting_of(config_in(image), image.len())
+    setting_of(medium, config_in(image), image.len())
 }
 
 // Whether these ten bytes are those of an image's valid label.
-pub fn label_holds(image: &[u8], config: [u8; 10]) -> bool
-    ensures { λ r. ⌜ r ≡ labelHolds (now (image .entry)) config ⌝ }
+pub fn label_holds(medium: Medium, image: &[u8], config: [u8; 10]) -> bool
+    ensures { λ r. ⌜ r ≡ labelHolds medium (now (image .entry)) config ⌝ }
 {
-    let setting = label_setting(image);
+    let setting = label_setting(medium, image);
     match setting {
         Setting::Invalid => false,
         Setting::Valid(_) => same_bytes(&image[0..10], &config[0..10]),

@@ -1,3 +1,4 @@
-// Logical addresses, tracks and a drive's parameters.
+// Logical addresses, tracks, kinds of drive and a drive's parameters.
 pub mod config;
+pub mod medium;
 pub mod params;

@@ -33,11 +33,11 @@ unfolding isReset
 reset-one frame h = rw (eq-eqb (length frame) 1 h)
 
 -- ---- the answer to Reset
-pub reset-answered : (image0 image1 text after : List ℕ) (outcome : Outcome) (n : ℕ) → 7 ≤ length text → outcome ≡ resetOf image0 image1
+pub reset-answered : (images : List (List ℕ)) (text after : List ℕ) (outcome : Outcome) (n : ℕ) → 7 ≤ length text → outcome ≡ resetOf images
     → (n ≡ 7) × (after ≡ splice 0 (answerText (outcome .answer) []) text)
-    → (n ≤ length after) × (saidNow (record { controller = outcome .controller; length = n }) after image0 image1 ≡ resetSaid image0 image1)
+    → (n ≤ length after) × (saidNow (record { controller = outcome .controller; length = n }) after images ≡ resetSaid images)
 unfolding resetSaid
-reset-answered image0 image1 text after outcome n room e told =
+reset-answered images text after outcome n room e told =
     let is = told-text (outcome .answer) [] text room after n (told .0) (told .1) in
     (is .0, rw (is .1, e))
 
@@ -58,37 +58,37 @@ drop-most n xs = take-all (length xs - min n (length xs)) (drop (min n (length x
     by (no h) = drop-of-length-le xs {i = min n (length xs)} (omega arith) ∙ sym (drop-of-length-le xs {i = n} (omega arith))
 
 -- ---- the answer to a frame: a part lent from the front is `take (k - 0)`
-pub frame-answered : (c : Controller) (frame area image0 image1 area′ image0′ image1′ text after : List ℕ) (outcome : Outcome) (k m n : ℕ)
+pub frame-answered : (c : Controller) (frame area area′ text after : List ℕ) (images images′ : List (List ℕ)) (outcome : Outcome) (k m n : ℕ)
     → 7 + 2 * length area ≤ length text → length area′ ≡ length area
     → k ≡ min 6 (length frame) → m ≡ min (outcome .answer .bytes) (length area′)
-    → resultNow outcome area′ image0′ image1′ ≡ execute c (take (k - 0) frame) (take (length frame - k) (drop k frame)) area image0 image1
+    → resultNow outcome area′ images′ ≡ execute c (take (k - 0) frame) (take (length frame - k) (drop k frame)) area images
     → (n ≡ 7 + 2 * length (take (m - 0) area′)) × (after ≡ splice 0 (answerText (outcome .answer) (take (m - 0) area′)) text)
     → (n ≤ length after)
-    × (saidNow (record { controller = outcome .controller; length = n }) after image0′ image1′ ≡ frameSaid c frame area image0 image1)
+    × (saidNow (record { controller = outcome .controller; length = n }) after images′ ≡ frameSaid c frame area images)
 unfolding frameSaid resultSaid
-frame-answered c frame area image0 image1 area′ image0′ image1′ text after outcome k m n room same ek em done told =
+frame-answered c frame area area′ text after images images′ outcome k m n room same ek em done told =
     let handed : List ℕ = take (m - 0) area′ in
     let l : length handed ≤ length area = rw (length-take (m - 0) area′) (omega arith) in
     let is = told-text (outcome .answer) handed text (omega arith) after n (told .0) (told .1) in
     let all : handed ≡ take (outcome .answer .bytes) area′ = rw (sub-zero m, em) (take-most (outcome .answer .bytes) area′) in
     let block : take (k - 0) frame ≡ take 6 frame = rw (sub-zero k, ek) (take-most 6 frame) in
     let rest : take (length frame - k) (drop k frame) ≡ drop 6 frame = rw ek (drop-most 6 frame) in
-    let result : resultNow outcome area′ image0′ image1′ ≡ execute c (take 6 frame) (drop 6 frame) area image0 image1 = rw (← block, ← rest) done in
+    let result : resultNow outcome area′ images′ ≡ execute c (take 6 frame) (drop 6 frame) area images = rw (← block, ← rest) done in
     (is .0, rw (← result, is .1, all))
 
 -- ---- the answer to a line
-module _ (c : Controller) (line : Line) (bytes area image0 image1 : List ℕ) where
+module _ (c : Controller) (line : Line) (bytes area : List ℕ) (images : List (List ℕ)) where
   module _ (told : Told) (after : List ℕ) (is : (told .controller ≡ c) × (take (told .length) after ≡ badText)) where
     spoilt-answered : wholeOf (lineNow line bytes) ≡ none
-        → saidNow told after image0 image1 ≡ lineSaid c (wholeOf (lineNow line bytes)) area image0 image1
+        → saidNow told after images ≡ lineSaid c (wholeOf (lineNow line bytes)) area images
     unfolding lineSaid
     spoilt-answered e = rw (e, is .0, is .1)
 
-    pub bad-answered : line .bad ≡ true → saidNow told after image0 image1 ≡ lineSaid c (wholeOf (lineNow line bytes)) area image0 image1
+    pub bad-answered : line .bad ≡ true → saidNow told after images ≡ lineSaid c (wholeOf (lineNow line bytes)) area images
     unfolding wholeOf
     bad-answered e = spoilt-answered (pick-true _ _ _ (rw e))
 
-    pub half-answered : line .half ≡ true → saidNow told after image0 image1 ≡ lineSaid c (wholeOf (lineNow line bytes)) area image0 image1
+    pub half-answered : line .half ≡ true → saidNow told after images ≡ lineSaid c (wholeOf (lineNow line bytes)) area images
     unfolding wholeOf
     half-answered e = spoilt-answered (pick-true _ _ _ (rw (e, or-true (line .bad))))
 
@@ -98,11 +98,11 @@ module _ (c : Controller) (line : Line) (bytes area image0 image1 : List ℕ) wh
     unfolding wholeOf
     whole-line = rw (sub-zero (line .count)) (pick-false _ _ _ (rw (bad, half)))
 
-    pub line-reset : reset ≡ true → said ≡ resetSaid image0 image1 → said ≡ lineSaid c (wholeOf (lineNow line bytes)) area image0 image1
+    pub line-reset : reset ≡ true → said ≡ resetSaid images → said ≡ lineSaid c (wholeOf (lineNow line bytes)) area images
     unfolding lineSaid
     line-reset e h = rw (whole-line, pick-true _ _ _ (sym is ∙ e)) h
 
-    pub line-frame : reset ≡ false → said ≡ frameSaid c (take (line .count - 0) bytes) area image0 image1
-        → said ≡ lineSaid c (wholeOf (lineNow line bytes)) area image0 image1
+    pub line-frame : reset ≡ false → said ≡ frameSaid c (take (line .count - 0) bytes) area images
+        → said ≡ lineSaid c (wholeOf (lineNow line bytes)) area images
     unfolding lineSaid
     line-frame e h = rw (whole-line, pick-false _ _ _ (sym is ∙ e)) h

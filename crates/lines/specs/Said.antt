@@ -24,38 +24,31 @@ badText = 0x46 ∷ 0x46 ∷ 0x0A ∷ []
 pub record Said : Type 0 where
   pub controller : Controller
   pub text : List ℕ
-  pub image0 : List ℕ
-  pub image1 : List ℕ
+  pub images : List (List ℕ)
 
-abbrev pub saidNow : Told → (text image0 image1 : List ℕ) → Said
-saidNow told text image0 image1 =
-    record { controller = told .controller; text = take (told .length) text; image0 = image0; image1 = image1 }
+abbrev pub saidNow : Told → (text : List ℕ) → (images : List (List ℕ)) → Said
+saidNow told text images = record { controller = told .controller; text = take (told .length) text; images = images }
 
 unfoldable pub resultSaid : Result → Said
 resultSaid result = record {
   controller = result .outcome .controller;
   text = answerText (result .outcome .answer) (take (result .outcome .answer .bytes) (result .area));
-  image0 = result .image0;
-  image1 = result .image1;
+  images = result .images;
 }
 
 -- The first six bytes are the block, the rest data.
-unfoldable pub frameSaid : Controller → (frame area image0 image1 : List ℕ) → Said
-frameSaid c frame area image0 image1 = resultSaid (execute c (take 6 frame) (drop 6 frame) area image0 image1)
+unfoldable pub frameSaid : Controller → (frame area : List ℕ) → (images : List (List ℕ)) → Said
+frameSaid c frame area images = resultSaid (execute c (take 6 frame) (drop 6 frame) area images)
 
-unfoldable pub resetSaid : (image0 image1 : List ℕ) → Said
-resetSaid image0 image1 = record {
-  controller = resetOf image0 image1 .controller;
-  text = answerText (resetOf image0 image1 .answer) [];
-  image0 = image0;
-  image1 = image1;
-}
+unfoldable pub resetSaid : (images : List (List ℕ)) → Said
+resetSaid images =
+    record { controller = resetOf images .controller; text = answerText (resetOf images .answer) []; images = images }
 
 -- FF alone is Reset.
 unfoldable pub isReset : (frame : List ℕ) → Bool
 isReset frame = eqb (length frame) 1 && eqb (getD frame 0 0) 0xFF
 
 -- A line's bytes, or none where it is bad hex or has too many: then FF, and nothing changes.
-unfoldable pub lineSaid : Controller → Option (List ℕ) → (area image0 image1 : List ℕ) → Said
-lineSaid c none area image0 image1 = record { controller = c; text = badText; image0 = image0; image1 = image1 }
-lineSaid c (some frame) area image0 image1 = pick (isReset frame) (resetSaid image0 image1) (frameSaid c frame area image0 image1)
+unfoldable pub lineSaid : Controller → Option (List ℕ) → (area : List ℕ) → (images : List (List ℕ)) → Said
+lineSaid c none area images = record { controller = c; text = badText; images = images }
+lineSaid c (some frame) area images = pick (isReset frame) (resetSaid images) (frameSaid c frame area images)

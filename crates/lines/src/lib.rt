@@ -10,6 +10,7 @@ ghost use Prim.Native.Nat.{_+_, _*_, _≤_, min};
 ghost use lib.ListN.{length, take};
 ghost use Rattle.base.specs.Part.{splice};
 ghost use Rattle.hex.specs.Line.{lineNow, wholeOf};
+ghost use Rattle.model.specs.Engine.{imagesOf};
 ghost use Rattle.lines.specs.Said.{answerText, badText, resetSaid, isReset, saidNow, frameSaid, lineSaid};
 
 const LINE_FEED: u8 = 0x0A;
@@ -59,15 +60,26 @@ fn answer_frame(
     area: &mut [u8],
     image0: &mut [u8],
     image1: &mut [u8],
+    image2: &mut [u8],
+    image3: &mut [u8],
     text: &mut [u8],
 ) -> Told
     requires { ⌜ 7 + 2 * length (now area) ≤ length (now text) ⌝ }
     ensures { λ r. ⌜ r .length ≤ length (now (text .exit)) ⌝ }
-    ensures { λ r. ⌜ saidNow r (now (text .exit)) (now (image0 .exit)) (now (image1 .exit)) ≡ frameSaid c (now (frame .entry)) (now (area .entry)) (now (image0 .entry)) (now (image1 .entry)) ⌝ }
+    ensures { λ r. ⌜ saidNow r (now (text .exit)) (imagesOf (now (image0 .exit)) (now (image1 .exit)) (now (image2 .exit)) (now (image3 .exit))) ≡ frameSaid c (now (frame .entry)) (now (area .entry)) (imagesOf (now (image0 .entry)) (now (image1 .entry)) (now (image2 .entry)) (now (image3 .entry))) ⌝ }
 {
     let end = frame.len();
     let n = least(BLOCK_LENGTH, end);
-    let outcome = execute(c, &frame[0..n], &frame[n..end], area, image0, image1);
+    let outcome = execute(
+        c,
+        &frame[0..n],
+        &frame[n..end],
+        area,
+        image0,
+        image1,
+        image2,
+        image3,
+    );
     let answer = outcome.answer;
     let controller = outcome.controller;
     let handed = least(answer.bytes as usize, area.len());
@@ -78,12 +90,12 @@ fn answer_frame(
 }
 
 // Reset: zeros.
-fn answer_reset(image0: &[u8], image1: &[u8], text: &mut [u8]) -> Told
+fn answer_reset(image0: &[u8], image1: &[u8], image2: &[u8], image3: &[u8], text: &mut [u8]) -> Told
     requires { ⌜ 7 ≤ length (now text) ⌝ }
     ensures { λ r. ⌜ r .length ≤ length (now (text .exit)) ⌝ }
-    ensures { λ r. ⌜ saidNow r (now (text .exit)) (now (image0 .entry)) (now (image1 .entry)) ≡ resetSaid (now (image0 .entry)) (now (image1 .entry)) ⌝ }
+    ensures { λ r. ⌜ saidNow r (now (text .exit)) (imagesOf (now (image0 .entry)) (now (image1 .entry)) (now (image2 .entry)) (now (image3 .entry))) ≡ resetSaid (imagesOf (now (image0 .entry)) (now (image1 .entry)) (now (image2 .entry)) (now (image3 .entry))) ⌝ }
 {
-    let outcome = reset(image0, image1);
+    let outcome = reset(image0, image1, image2, image3);
     let answer = outcome.answer;
     let controller = outcome.controller;
     Told {
@@ -115,11 +127,13 @@ pub fn answer_line(
     area: &mut [u8],
     image0: &mut [u8],
     image1: &mut [u8],
+    image2: &mut [u8],
+    image3: &mut [u8],
     text: &mut [u8],
 ) -> Told
     requires { ⌜ (7 + 2 * length (now area) ≤ length (now text)) × (line .count ≤ length (now bytes)) ⌝ }
     ensures { λ r. ⌜ r .length ≤ length (now (text .exit)) ⌝ }
-    ensures { λ r. ⌜ saidNow r (now (text .exit)) (now (image0 .exit)) (now (image1 .exit)) ≡ lineSaid c (wholeOf (lineNow line (now (bytes .entry)))) (now (area .entry)) (now (image0 .entry)) (now (image1 .entry)) ⌝ }
+    ensures { λ r. ⌜ saidNow r (now (text .exit)) (imagesOf (now (image0 .exit)) (now (image1 .exit)) (now (image2 .exit)) (now (image3 .exit))) ≡ lineSaid c (wholeOf (lineNow line (now (bytes .entry)))) (now (area .entry)) (imagesOf (now (image0 .entry)) (now (image1 .entry)) (now (image2 .entry)) (now (image3 .entry))) ⌝ }
 {
     let count = line.count;
     if line.bad {
@@ -129,7 +143,16 @@ pub fn answer_line(
         return answer_bad(c, text);
     }
     if is_reset(&bytes[0..count]) {
-        return answer_reset(image0, image1, text);
+        return answer_reset(image0, image1, image2, image3, text);
     }
-    answer_frame(c, &bytes[0..count], area, image0, image1, text)
+    answer_frame(
+        c,
+        &bytes[0..count],
+        area,
+        image0,
+        image1,
+        image2,
+        image3,
+        text,
+    )
 }

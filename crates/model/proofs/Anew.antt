@@ -8,8 +8,10 @@ use native.Mathlib.Omega.{arith}
 use lib.ListN.{length}
 use Rattle.base.specs.Part.{part}
 use Rattle.geometry.specs.declared.params.Params.{Params}
+use Rattle.geometry.specs.declared.medium.Medium.{Medium}
 use Rattle.geometry.specs.declared.config.Setting.the-variants.{Valid}
 use Rattle.geometry.specs.Params.{trackCount, trackOf}
+use Rattle.geometry.specs.Medium.{mediumOf}
 use Rattle.geometry.specs.Config.{settingOf, labelRest}
 use Rattle.geometry.proofs.Settings.{setting-ten}
 use Rattle.geometry.proofs.Labels.{label-made}
@@ -37,27 +39,28 @@ unfolding settled
 settled-sense entry = refl
 
 -- the drive after it: what was in force is stored, and not pending
-module _ (entry : Drive) (image : List ℕ) (u : Disk) (drive : Drives entry image u) (p : Params) (force : InForce entry image u p)
+module _ (medium : Medium) (entry : Drive) (image : List ℕ) (u : Disk) (drive : Drives medium entry image u) (p : Params)
+    (force : InForce medium entry image u p)
     (s inter : ℕ) (fill after : List ℕ) where
   drive-settled : length after ≡ length image → part 0 16 after ≡ entry .config ++ labelRest
       → Mirrors p (reformatted p s inter fill u .kind) (reformatted p s inter fill u .inter) (reformatted p s inter fill u .held) after
-      → Drives (settled entry) after (reformatted p s inter fill u)
+      → Drives medium (settled entry) after (reformatted p s inter fill u)
   unfolding settled reformatted
   drive-settled len label mirror =
-      let valid : settingOf (entry .config) (length after) ≡ Valid p = ap (settingOf (entry .config)) len ∙ force .setting in
-      let made = label-made (entry .config) after p label valid in
+      let valid : settingOf medium (entry .config) (length after) ≡ Valid p = ap (settingOf medium (entry .config)) len ∙ force .setting in
+      let made = label-made medium (entry .config) after p label valid in
       record {
         len = drive .len ∙ sym len;
         force = drive .force;
         pending = refl;
         settled = λ e. refl;
-        stored = subst (Stored (reformatted p s inter fill u) after) (sym (force .is))
+        stored = subst (Stored medium (reformatted p s inter fill u) after) (sym (force .is))
             (something (entry .config) p valid (made .0) (made .1) mirror);
         sense = drive .sense;
       }
 
 module _ (image : ℕ → List ℕ) (b : Block) (area : List ℕ) (c : Controller) (m : Machine) (four : b .drive < 4) (agree : Agrees c image m)
-    (p : Params) (force : InForce (driveAt c (b .drive)) (image (b .drive)) (m .disks (b .drive)) p)
+    (p : Params) (force : InForce (mediumOf (b .drive)) (driveAt c (b .drive)) (image (b .drive)) (m .disks (b .drive)) p)
     (calm : (m .disks (b .drive) .pending ≡ false) ⊎ (trackOf p (b .address) .0 ≡ 0))
     (ours : trackOf p (b .address) .0 < trackCount p) (inter : (0 < b .extra) × (b .extra < p .sectors)) where
   -- both find the same pair split
@@ -67,7 +70,7 @@ module _ (image : ℕ → List ℕ) (b : Block) (area : List ℕ) (c : Controlle
       by : (m .disks (b .drive) .pending ≡ false) ⊎ (trackOf p (b .address) .0 ≡ 0)
           → pairSplit p (trackOf p (b .address)) (image (b .drive)) ≡ someParted (m .disks (b .drive) .kind) (trackOf p (b .address) .0) (trackCount p)
       by (inl e) =
-          split-mirrored p (force .within) _ _ _ (image (b .drive)) (mirrored _ _ _ (agree .drives (b .drive)) p force e) (trackOf p (b .address))
+          split-mirrored p (force .within) _ _ _ (image (b .drive)) (mirrored _ _ _ _ (agree .drives (b .drive) four) p force e) (trackOf p (b .address))
       by (inr e) =
           ap (λ (k : ℕ). pairSplit p (track k) (image (b .drive))) e ∙ split-zero p (image (b .drive))
           ∙ sym (ap (λ (k : ℕ). someParted (m .disks (b .drive) .kind) k (trackCount p)) e ∙ parted-zero (m .disks (b .drive) .kind) (trackCount p))
@@ -78,7 +81,7 @@ module _ (image : ℕ → List ℕ) (b : Block) (area : List ℕ) (c : Controlle
     where
       by : (m .disks (b .drive) .pending ≡ false) ⊎ (trackOf p (b .address) .0 ≡ 0)
           → Mirrors p (m .disks (b .drive) .kind) (m .disks (b .drive) .inter) (m .disks (b .drive) .held) (image (b .drive))
-      by (inl e) = mirrored _ _ _ (agree .drives (b .drive)) p force e
+      by (inl e) = mirrored _ _ _ _ (agree .drives (b .drive) four) p force e
       by (inr e) = absurd (omega arith)
 
   pub drive-follows : Follows image b area (formatOn b p c (image (b .drive))) (formatDrive b p m (m .disks (b .drive)))
@@ -89,14 +92,14 @@ module _ (image : ℕ → List ℕ) (b : Block) (area : List ℕ) (c : Controlle
       let fill = filling b p m in
       let entry = driveAt c (b .drive) in
       let lf = fill-sized b p c image m agree (force .within) in
-      let ten = setting-ten (entry .config) (length (image (b .drive))) p (force .setting) in
+      let ten = setting-ten (mediumOf (b .drive)) (entry .config) (length (image (b .drive))) p (force .setting) in
       let after = driveFormatted b p (entry .config) fill (image (b .drive)) in
       let len = drive-length b p (force .within) (image (b .drive)) (force .fits) (entry .config) fill ten (omega (arith, lf)) ours in
       rw (split-same, fill-same b p c image m agree)
       (verdict-follows image b area c m four agree _ _ _ (λ e.
       well-follows image b area four 0 [] (withDrive (b .drive) (settled entry) c) after (withDisk (b .drive) (reformatted p s (b .extra) fill u) m) len
       (agree-drive c image m agree (b .drive) four (settled entry) after (reformatted p s (b .extra) fill u) (settled-sense entry)
-      (drive-settled entry (image (b .drive)) u (agree .drives (b .drive)) p force s (b .extra) fill after len
+      (drive-settled _ entry (image (b .drive)) u (agree .drives (b .drive) four) p force s (b .extra) fill after len
       (drive-label b p (force .within) (image (b .drive)) (force .fits) (entry .config) fill ten (omega (arith, lf)) ours)
       (drive-remade b p (force .within) inter fill lf u (image (b .drive)) (force .fits) (entry .config) ten ours
       (λ h. (below h, passed-on _ _ _ _ _ e .0)))))))

@@ -11,8 +11,10 @@ use Rattle.base.specs.Pick.{pick}
 use Rattle.geometry.specs.declared.params.Lba.{Lba}
 use Rattle.geometry.specs.declared.params.Track.{Track}
 use Rattle.geometry.specs.declared.params.Params.{Params}
+use Rattle.geometry.specs.declared.medium.Medium.{Medium}
 use Rattle.geometry.specs.declared.config.Setting.the-variants.{Valid}
 use Rattle.geometry.specs.Params.{Within, trackCount, trackOf, sectorOf}
+use Rattle.geometry.specs.Medium.{mediumOf}
 use Rattle.geometry.specs.Config.{settingOf}
 use Rattle.geometry.proofs.Settings.{setting-within}
 use Rattle.geometry.proofs.Addresses.{track-of-drive}
@@ -56,28 +58,28 @@ held-inside p w kind past a held = by (decLt (trackOf p a .0) (trackCount p))
     by (yes h) = track-of-drive p w a h
     by (no h) = absurd (false≢true (sym (ap isHeld (past (trackOf p a) (omega (arith, h)))) ∙ held))
 
-stored-holds : (u : Disk) (image : List ℕ) {o : Option (List ℕ)} → Stored u image o → (config : List ℕ) → o ≡ some config
-    → (p : Params) × (settingOf config (length image) ≡ Valid p)
+stored-holds : (medium : Medium) (u : Disk) (image : List ℕ) {o : Option (List ℕ)} → Stored medium u image o → (config : List ℕ) → o ≡ some config
+    → (p : Params) × (settingOf medium config (length image) ≡ Valid p)
     × ((a : Lba) → isHeld (u .kind (trackOf p a)) ≡ true
     → (t : Track) × (k : ℕ) × (sectorFound p (trackOf p a) (sectorOf p a) image ≡ Slot t k)
     × (slotData p k (trackBytes p t image) ≡ u .held a))
-stored-holds u image (nothing i) config e = absurd (let z : _≡_ {A = ℕ} 0 1 = cc in omega arith)
-stored-holds u image (something before p s l i mirror) config e =
+stored-holds medium u image (nothing i) config e = absurd (let z : _≡_ {A = ℕ} 0 1 = cc in omega arith)
+stored-holds medium u image (something before p s l i mirror) config e =
     let same : config ≡ before = cc in
-    let w = setting-within before (length image) p s in (
+    let w = setting-within medium before (length image) p s in (
       p,
-      ap (λ (k : List ℕ). settingOf k (length image)) same ∙ s,
+      ap (λ (k : List ℕ). settingOf medium k (length image)) same ∙ s,
       λ a held.
           found-held p u image a held
           (found-by p (w .0) (u .kind) (u .inter) (u .held) image (w .1) mirror a (held-inside p (w .0) (u .kind) (mirror .past) a held)),
     )
 
 -- ---- call by call
-run-follows : (orders : List Order) (s : State) (m : Machine) → Agrees (s .controller) (λ d. imageOf d (s .image0) (s .image1)) m
+run-follows : (orders : List Order) (s : State) (m : Machine) → Agrees (s .controller) (λ d. imageOf d (s .images)) m
     → (engineReplies s orders ≡ replies m (map fed orders))
-    × ((drive : ℕ) → Holds (atEnd m (map fed orders) .disks drive) (imageOf drive (engineAtEnd s orders .image0) (engineAtEnd s orders .image1)))
+    × ((drive : ℕ) → drive < 4 → Holds (mediumOf drive) (atEnd m (map fed orders) .disks drive) (imageOf drive (engineAtEnd s orders .images)))
 unfolding engineReplies engineAtEnd replies atEnd Holds
-run-follows [] s m agree = (refl, λ drive. stored-holds _ _ (agree .drives drive .stored))
+run-follows [] s m agree = (refl, λ drive h. stored-holds _ _ _ (agree .drives drive h .stored))
 run-follows (order ∷ orders) s m agree =
     let now = call-answered s order m agree in
     let later = run-follows orders (called s order .1) (step m (fed order) .1) (now .agree) in
@@ -85,4 +87,4 @@ run-follows (order ∷ orders) s m agree =
 
 pub claimed : Claim
 unfolding Claim begin
-claimed image0 image1 none0 none1 orders = run-follows orders _ (beginMachine image0 image1) (agree-fresh image0 image1 none0 none1)
+claimed images none orders = run-follows orders _ (beginMachine images) (agree-fresh images none)

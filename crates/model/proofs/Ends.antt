@@ -1,17 +1,16 @@
 -- How a call ends: engine and machine change sense, buffer and drive alike, and reply alike.
 use Prim.Native.Nat.{ℕ, _<_}
 use mathlib.Core.Path.{_≡_, refl, _∙_}
-use mathlib.Core.Bool.{Bool, true, false}
 use mathlib.Core.List.{List, []}
 use native.Mathlib.Decide.{ℕ-discrete}
 use native.Mathlib.Omega.{arith}
 use lib.ListN.{length, take, length-set}
 use lib.Seq.{take-append-seam, getD-set-same, getD-set-other}
 use borrow.Author.Tests.{eq-eqb, ne-eqb}
-use Rattle.base.specs.Pick.{pick}
 use Rattle.base.specs.Part.{splice}
-use Rattle.base.proofs.Decide.{pick-true, pick-false}
+use Rattle.base.proofs.Decide.{pick-true, pick-false, pick-both}
 use Rattle.geometry.specs.declared.params.Lba.{Lba}
+use Rattle.geometry.specs.Medium.{mediumOf}
 use Rattle.model.specs.declared.block.Block.{Block}
 use Rattle.model.specs.declared.record.Drive.{Drive}
 use Rattle.model.specs.declared.record.Controller.{Controller}
@@ -59,14 +58,9 @@ module _ (c : Controller) (d : ℕ) (entry : Drive) where
   unfolding withDrive
   drives-buffer = refl
 
-sense-made : (t : Bool) (a b : List ℕ) → length a ≡ 4 → length b ≡ 4 → length (pick t a b) ≡ 4
-unfolding pick
-sense-made true a b ea eb = ea
-sense-made false a b ea eb = eb
-
 pub sense-length : (code drive : ℕ) (at : Lba) → length (senseOf code drive at) ≡ 4
 unfolding senseOf
-sense-length code drive at = sense-made (addressed code) _ _ refl refl
+sense-length code drive at = pick-both (λ (l : List ℕ). length l ≡ 4) (addressed code) _ _ refl refl
 
 -- ---- what both sides change alike
 pub agree-images : (c : Controller) (image other : ℕ → List ℕ) (m : Machine) → ((d : ℕ) → other d ≡ image d) → Agrees c image m → Agrees c other m
@@ -75,7 +69,7 @@ agree-images c image other m same agree = record {
   whole = agree .whole;
   four = agree .four;
   senses = agree .senses;
-  drives = λ d. rw (same d) (agree .drives d);
+  drives = λ d h. rw (same d) (agree .drives d h);
 }
 
 pub agree-kept : (d : ℕ) (c : Controller) (image : ℕ → List ℕ) (m : Machine) → Agrees c image m → Agrees c (changed image d (image d)) m
@@ -88,7 +82,7 @@ module _ (c : Controller) (image : ℕ → List ℕ) (m : Machine) (agree : Agre
 
   module _ (d : ℕ) (h : d < 4) where
     -- the named drive's entry, image and disk
-    pub agree-drive : (entry : Drive) (after : List ℕ) (u : Disk) → entry .sense ≡ driveAt c d .sense → Drives entry after u
+    pub agree-drive : (entry : Drive) (after : List ℕ) (u : Disk) → entry .sense ≡ driveAt c d .sense → Drives (mediumOf d) entry after u
         → Agrees (withDrive d entry c) (changed image d after) (withDisk d u m)
     unfolding withDisk
     agree-drive entry after u es new = record {
@@ -96,30 +90,30 @@ module _ (c : Controller) (image : ℕ → List ℕ) (m : Machine) (agree : Agre
       whole = rw (drives-buffer c d entry) (agree .whole);
       four = drives-length c d entry ∙ agree .four;
       senses = λ j l. senses j l (ℕ-discrete j d);
-      drives = λ j. drives j (ℕ-discrete j d);
+      drives = λ j l. drives j l (ℕ-discrete j d);
     }
       where
         senses : (j : ℕ) → j < 4 → Dec (j ≡ d) → driveAt (withDrive d entry c) j .sense ≡ m .senses j
         senses j l (yes q) = rw (q, drive-same c d entry (agree .four) h) (es ∙ agree .senses d h)
         senses j l (no q) = rw (drive-other c d entry j q) (agree .senses j l)
 
-        drives : (j : ℕ) → Dec (j ≡ d) → Drives (driveAt (withDrive d entry c) j) (changed image d after j) (changed (m .disks) d u j)
-        drives j (yes q) = rw (q, drive-same c d entry (agree .four) h, changed-same image d after, changed-same (m .disks) d u) new
-        drives j (no q) = rw (drive-other c d entry j q, changed-other image d after j q, changed-other (m .disks) d u j q) (agree .drives j)
+        drives : (j : ℕ) → j < 4 → Dec (j ≡ d) → Drives (mediumOf j) (driveAt (withDrive d entry c) j) (changed image d after j) (changed (m .disks) d u j)
+        drives j l (yes q) = rw (q, drive-same c d entry (agree .four) h, changed-same image d after, changed-same (m .disks) d u) new
+        drives j l (no q) = rw (drive-other c d entry j q, changed-other image d after j q, changed-other (m .disks) d u j q) (agree .drives j l)
 
-    pub agree-disk : (after : List ℕ) (u : Disk) → Drives (driveAt c d) after u → Agrees c (changed image d after) (withDisk d u m)
+    pub agree-disk : (after : List ℕ) (u : Disk) → Drives (mediumOf d) (driveAt c d) after u → Agrees c (changed image d after) (withDisk d u m)
     unfolding withDisk
     agree-disk after u new = record {
       buffer = agree .buffer;
       whole = agree .whole;
       four = agree .four;
       senses = agree .senses;
-      drives = λ j. drives j (ℕ-discrete j d);
+      drives = λ j l. drives j l (ℕ-discrete j d);
     }
       where
-        drives : (j : ℕ) → Dec (j ≡ d) → Drives (driveAt c j) (changed image d after j) (changed (m .disks) d u j)
-        drives j (yes q) = rw (q, changed-same image d after, changed-same (m .disks) d u) new
-        drives j (no q) = rw (changed-other image d after j q, changed-other (m .disks) d u j q) (agree .drives j)
+        drives : (j : ℕ) → j < 4 → Dec (j ≡ d) → Drives (mediumOf j) (driveAt c j) (changed image d after j) (changed (m .disks) d u j)
+        drives j l (yes q) = rw (q, changed-same image d after, changed-same (m .disks) d u) new
+        drives j l (no q) = rw (changed-other image d after j q, changed-other (m .disks) d u j q) (agree .drives j l)
 
     pub agree-sense : (sense : List ℕ) → length sense ≡ 4 → Agrees (withSense d sense c) image (sensing d sense m)
     unfolding withSense sensing sensed
@@ -128,7 +122,7 @@ module _ (c : Controller) (image : ℕ → List ℕ) (m : Machine) (agree : Agre
       whole = rw (drives-buffer c d entry) (agree .whole);
       four = drives-length c d entry ∙ agree .four;
       senses = λ j l. senses j l (ℕ-discrete j d);
-      drives = λ j. drives j (ℕ-discrete j d);
+      drives = λ j l. drives j l (ℕ-discrete j d);
     }
       where
         entry : Drive
@@ -138,13 +132,13 @@ module _ (c : Controller) (image : ℕ → List ℕ) (m : Machine) (agree : Agre
         senses j l (yes q) = rw (q, drive-same c d entry (agree .four) h, changed-same (m .senses) d sense)
         senses j l (no q) = rw (drive-other c d entry j q, changed-other (m .senses) d sense j q) (agree .senses j l)
 
-        resensed : Drives entry (image d) (m .disks d)
-        resensed = let o = agree .drives d in
+        resensed : Drives (mediumOf d) entry (image d) (m .disks d)
+        resensed = let o = agree .drives d h in
             record { len = o .len; force = o .force; pending = o .pending; settled = o .settled; stored = o .stored; sense = l4 }
 
-        drives : (j : ℕ) → Dec (j ≡ d) → Drives (driveAt (withDrive d entry c) j) (image j) (m .disks j)
-        drives j (yes q) = rw (q, drive-same c d entry (agree .four) h) resensed
-        drives j (no q) = rw (drive-other c d entry j q) (agree .drives j)
+        drives : (j : ℕ) → j < 4 → Dec (j ≡ d) → Drives (mediumOf j) (driveAt (withDrive d entry c) j) (image j) (m .disks j)
+        drives j l (yes q) = rw (q, drive-same c d entry (agree .four) h) resensed
+        drives j l (no q) = rw (drive-other c d entry j q) (agree .drives j l)
 
 -- ---- the reply: the front of the data area is what was handed over
 pub front : (handed area : List ℕ) → take (length handed) (splice 0 handed area) ≡ handed

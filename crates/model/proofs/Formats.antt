@@ -1,19 +1,23 @@
 -- The commands on one track: Check Track, Format Track, Format Bad Track, Assign Alternate.
 use Prim.Native.Nat.{ℕ, _*_, _<_}
 use mathlib.Core.Path.{_≡_, refl, sym, ap, _∙_}
-use mathlib.Core.Bool.{Bool, true, false}
+use mathlib.Core.Bool.{false, not, _&&_, and-true, and-false}
 use mathlib.Core.List.{List, []}
 use native.Mathlib.Omega.{arith}
-use lib.ListN.{length, length-replicate}
+use lib.ListN.{length, take}
 use borrow.Author.Tests.{eqb-false, leb-false}
 use Rattle.base.specs.Pick.{pick}
 use Rattle.base.specs.Part.{part}
 use Rattle.base.proofs.Parts.{length-part}
+use Rattle.base.proofs.Decide.{pick-false, pick-both}
 use Rattle.base.proofs.Bools.{or-off}
 use Rattle.geometry.specs.declared.params.Lba.{Lba}
 use Rattle.geometry.specs.declared.params.Track.{Track}
 use Rattle.geometry.specs.declared.params.Params.{Params}
+use Rattle.geometry.specs.declared.medium.Medium.{Medium}
+use Rattle.geometry.specs.declared.medium.Medium.the-variants.{HardDisk, Floppy}
 use Rattle.geometry.specs.Params.{Within, trackCount, trackOf}
+use Rattle.geometry.specs.Medium.{mediumOf, isFloppy}
 use Rattle.geometry.specs.Config.{byte}
 use Rattle.geometry.proofs.Addresses.{track-in}
 use Rattle.track.specs.declared.id.State.the-variants.{Sound, Bad}
@@ -23,11 +27,12 @@ use Rattle.model.specs.declared.verdict.Verdict.the-variants.{Passed}
 use Rattle.model.specs.Block.{fromBuffer, alternateOf}
 use Rattle.model.specs.Checks.{judged}
 use Rattle.model.specs.Record.{driveAt, good}
-use Rattle.model.specs.Commands.{plainFill, fillOf}
+use Rattle.model.specs.Commands.{plainByte, plainFill, fillOf}
 use Rattle.model.specs.Commands.{checkTrack as checkOn, formatTrack as formatOn, assignAlternate as assignOn}
-use Rattle.model.specs.Machine.{Kind, Disk, Machine, sound, bad, withDisk, becomes, filled, paired, unassignable, isMoved, isTaken, well, plain, filling, checkTrack, formatTrack, formatBadTrack, addressGiven, assignTo, assignAlternate}
+use Rattle.model.specs.Machine.{Kind, Disk, Machine, sound, bad, withDisk, becomes, filled, paired, unassignable, isMoved, isTaken, well, fillingOn, filling, checkTrack, formatTrack, formatBadTrack, addressGiven, assignTo, assignAlternate}
 use Rattle.model.proofs.Mirrors.{Mirrors}
 use Rattle.model.proofs.States.{alone-mirrored, check-mirrored, assign-mirrored}
+use Rattle.model.proofs.Outside.{plain-length}
 use Rattle.model.proofs.Remaking.{Remade, sound-remade, bad-remade, assign-remade}
 use Rattle.model.proofs.Passages.{OnlyHeld}
 use Rattle.model.proofs.Agrees.{Agrees, Follows}
@@ -36,25 +41,24 @@ use Rattle.model.proofs.Judged.{passed-on}
 use Rattle.model.proofs.Current.{InForce, mirrored, drive-again}
 
 -- ---- the fill
-fill-length : (front : Bool) (a b : List ℕ) (size : ℕ) → length a ≡ size → length b ≡ size → length (pick front a b) ≡ size
-unfolding pick
-fill-length true a b size ea eb = ea
-fill-length false a b size ea eb = eb
-
-pub plain-length : (p : Params) → length (plainFill p) ≡ p .size
-unfolding plainFill
-plain-length p = length-replicate (p .size) 0x6C
+-- one fill, on either medium
+fill-on : (medium : Medium) (b : Block) (p : Params) (m : Machine)
+    → pick (fromBuffer b && not (isFloppy medium)) (take (p .size) (m .buffer)) (plainFill medium p) ≡ fillingOn medium b p m
+unfolding isFloppy plainFill plainByte fillingOn
+fill-on HardDisk b p m = rw (and-true (fromBuffer b))
+fill-on Floppy b p m = rw (and-false (fromBuffer b)) (pick-false false _ _ refl)
 
 module _ (b : Block) (p : Params) (c : Controller) (image : ℕ → List ℕ) (m : Machine) (agree : Agrees c image m) where
-  pub fill-same : fillOf b p c ≡ filling b p m
-  unfolding fillOf filling plainFill plain part
-  fill-same = rw (agree .buffer)
+  pub fill-same : fillOf b p (c .buffer) ≡ filling b p m
+  unfolding fillOf filling part
+  fill-same = rw (agree .buffer) (fill-on (mediumOf (b .drive)) b p m)
 
   pub fill-sized : Within p → length (filling b p m) ≡ p .size
   unfolding fillOf
   fill-sized w =
       ap length (sym fill-same)
-      ∙ fill-length (fromBuffer b) _ _ (p .size) (length-part 0 (p .size) (c .buffer) (omega (arith, w .size-most, agree .whole))) (plain-length p)
+      ∙ pick-both (λ (l : List ℕ). length l ≡ p .size) _ _ _ (length-part 0 (p .size) (c .buffer) (omega (arith, w .size-most, agree .whole)))
+      (plain-length (mediumOf (b .drive)) p)
 
 paired-passed : (kind : Kind) (a : Lba) → judged (paired kind a) Passed ≡ Passed → (isMoved kind ≡ false) × (isTaken kind ≡ false)
 unfolding paired
@@ -103,16 +107,16 @@ assign-only p A B inter fill u = record { len = refl; stored = refl; force = ref
 
 -- ---- a command on parameters in force that are not pending
 module _ (image : ℕ → List ℕ) (b : Block) (area : List ℕ) (c : Controller) (m : Machine) (four : b .drive < 4) (agree : Agrees c image m)
-    (p : Params) (force : InForce (driveAt c (b .drive)) (image (b .drive)) (m .disks (b .drive)) p) (calm : m .disks (b .drive) .pending ≡ false) where
+    (p : Params) (force : InForce (mediumOf (b .drive)) (driveAt c (b .drive)) (image (b .drive)) (m .disks (b .drive)) p) (calm : m .disks (b .drive) .pending ≡ false) where
   mirror : Mirrors p (m .disks (b .drive) .kind) (m .disks (b .drive) .inter) (m .disks (b .drive) .held) (image (b .drive))
-  mirror = mirrored _ _ _ (agree .drives (b .drive)) p force calm
+  mirror = mirrored _ _ _ _ (agree .drives (b .drive) four) p force calm
 
   remade-follows : (v : Disk) (after : List ℕ) → OnlyHeld (m .disks (b .drive)) v → Remade p v (image (b .drive)) after
       → Follows image b area (good b 0 [] c after) (well b 0 [] (withDisk (b .drive) v m))
   remade-follows v after same made =
       well-follows image b area four 0 [] c after (withDisk (b .drive) v m) (made .keeps .len)
       (agree-disk c image m agree (b .drive) four after v
-      (drive-again _ _ _ (agree .drives (b .drive)) p force calm v after same (made .keeps) (made .mirror)))
+      (drive-again _ _ _ _ (agree .drives (b .drive) four) p force calm v after same (made .keeps) (made .mirror)))
 
   module _ (ours : trackOf p (b .address) .0 < trackCount p) (inter : (0 < b .extra) × (b .extra < p .sectors)) where
     pub check-follows : Follows image b area (checkOn b p c (image (b .drive))) (checkTrack b p m (m .disks (b .drive)))
@@ -121,7 +125,7 @@ module _ (image : ℕ → List ℕ) (b : Block) (area : List ℕ) (c : Controlle
         rw (check-mirrored p (force .within) _ _ _ (image (b .drive)) mirror (trackOf p (b .address)) (b .address) (b .extra) Passed ours inter)
         (verdict-follows image b area c m four agree _ _ _ (λ e. done-follows image b area c m four agree))
 
-    pub sound-follows : Follows image b area (formatOn b p Sound (fillOf b p c) c (image (b .drive))) (formatTrack b p m (m .disks (b .drive)))
+    pub sound-follows : Follows image b area (formatOn b p Sound (fillOf b p (c .buffer)) c (image (b .drive))) (formatTrack b p m (m .disks (b .drive)))
     unfolding formatOn formatTrack
     sound-follows =
         let u = m .disks (b .drive) in
@@ -133,7 +137,7 @@ module _ (image : ℕ → List ℕ) (b : Block) (area : List ℕ) (c : Controlle
         (sound-remade b p (force .within) inter (filling b p m) (fill-sized b p c image m agree (force .within)) u (image (b .drive)) (force .fits) mirror
         t ours (free .0) (free .1))))
 
-    pub bad-follows : Follows image b area (formatOn b p Bad (plainFill p) c (image (b .drive))) (formatBadTrack b p m (m .disks (b .drive)))
+    pub bad-follows : Follows image b area (formatOn b p Bad (plainFill (mediumOf (b .drive)) p) c (image (b .drive))) (formatBadTrack b p m (m .disks (b .drive)))
     unfolding formatOn formatBadTrack
     bad-follows =
         let u = m .disks (b .drive) in
@@ -142,7 +146,7 @@ module _ (image : ℕ → List ℕ) (b : Block) (area : List ℕ) (c : Controlle
         (verdict-follows image b area c m four agree _ _ _ (λ e.
         let free = paired-passed (u .kind t) (b .address) e in
         remade-follows (becomes t bad (b .extra) u) _ (becomes-only t bad (b .extra) u)
-        (bad-remade b p (force .within) inter (plainFill p) (plain-length p) u (image (b .drive)) (force .fits) mirror t ours (free .0) (free .1))))
+        (bad-remade b p (force .within) inter (plainFill (mediumOf (b .drive)) p) (plain-length (mediumOf (b .drive)) p) u (image (b .drive)) (force .fits) mirror t ours (free .0) (free .1))))
 
     pub assign-follows : (given : List ℕ)
         → Follows image b area (assignOn b p given c (image (b .drive))) (assignAlternate b p given m (m .disks (b .drive)))

@@ -6,6 +6,7 @@ use lib.ListN.{length}
 use Rattle.geometry.specs.declared.params.Params.{Params}
 use Rattle.geometry.specs.declared.config.Setting.{Setting}
 use Rattle.geometry.specs.declared.config.Setting.the-variants.{Valid, Invalid}
+use Rattle.geometry.specs.Medium.{mediumOf}
 use Rattle.model.specs.declared.block.Block.{Block}
 use Rattle.model.specs.declared.table.Command.{Command}
 use Rattle.model.specs.declared.table.Command.the-variants.{TestReady, Recalibrate, RequestSense, FormatDrive, CheckTrack, FormatTrack, FormatBadTrack, Read, Write, Seek, AssignAlternate, WriteBuffer, ReadBuffer, Initialize, Unknown}
@@ -30,27 +31,27 @@ use Rattle.model.proofs.Transfers.{read-follows, write-follows}
 
 module _ (b : Block) (given area : List ℕ) (c : Controller) (image : ℕ → List ℕ) (m : Machine) (four : b .drive < 4)
     (agree : Agrees c image m) where
-  module _ (passed : judge b (seen (m .disks (b .drive))) (length given) (length area) ≡ Passed) (command : Command)
+  module _ (passed : judge b (seen (mediumOf (b .drive)) (m .disks (b .drive))) (length given) (length area) ≡ Passed) (command : Command)
       (is : entryOf (b .opcode) .command ≡ command) where
     row : entryOf (b .opcode) ≡ entryOf (opcodeFor command)
     row = row-of (b .opcode) ∙ ap (λ (k : Command). entryOf (opcodeFor k)) is
 
     -- a command that needs parameters: they are in force, and its row's checks have passed
-    disk-follows : (s : Setting) → seen (m .disks (b .drive)) .setting ≡ s → (run : Params → Effect) (go : Params → Reply × Machine)
-        → ((p : Params) → InForce (driveAt c (b .drive)) (image (b .drive)) (m .disks (b .drive)) p
+    disk-follows : (s : Setting) → seen (mediumOf (b .drive)) (m .disks (b .drive)) .setting ≡ s → (run : Params → Effect) (go : Params → Reply × Machine)
+        → ((p : Params) → InForce (mediumOf (b .drive)) (driveAt c (b .drive)) (image (b .drive)) (m .disks (b .drive)) p
         → Cleared (entryOf (opcodeFor command)) b p (m .disks (b .drive) .pending) (length given) → Follows image b area (run p) (go p))
         → Follows image b area (onDisk s b c (image (b .drive)) run) (withParameters s b m go)
     unfolding onDisk withParameters seen
     disk-follows Invalid e run go each = fault-follows image b area c m four agree 0x0A (b .address)
     disk-follows (Valid p) e run go each =
-        each p (in-force _ _ (m .disks (b .drive)) (agree .drives (b .drive)) p e)
+        each p (in-force _ _ _ (m .disks (b .drive)) (agree .drives (b .drive) four) p e)
         (subst (λ (r : Entry). Cleared r b p (m .disks (b .drive) .pending) (length given)) row
-        (cleared b (seen (m .disks (b .drive))) (length given) (length area) passed p e))
+        (cleared b (seen (mediumOf (b .drive)) (m .disks (b .drive))) (length given) (length area) passed p e))
 
-  carried-follows : judge b (seen (m .disks (b .drive))) (length given) (length area) ≡ Passed
+  carried-follows : judge b (seen (mediumOf (b .drive)) (m .disks (b .drive))) (length given) (length area) ≡ Passed
       → (command : Command) → entryOf (b .opcode) .command ≡ command
-      → Follows image b area (carryOut b (seen (m .disks (b .drive)) .setting) given c (image (b .drive)) command)
-      (carried b (seen (m .disks (b .drive)) .setting) given m (m .disks (b .drive)) command)
+      → Follows image b area (carryOut b (seen (mediumOf (b .drive)) (m .disks (b .drive)) .setting) given c (image (b .drive)) command)
+      (carried b (seen (mediumOf (b .drive)) (m .disks (b .drive)) .setting) given m (m .disks (b .drive)) command)
   unfolding carryOut carried entryOf opcodeFor bytesOf sizeIn
   carried-follows passed TestReady is = done-follows image b area c m four agree
   carried-follows passed Recalibrate is = done-follows image b area c m four agree
@@ -86,8 +87,8 @@ module _ (b : Block) (given area : List ℕ) (c : Controller) (image : ℕ → L
       assign-follows image b area c m four agree p force (t .calm) (t .ours) (t .inter) given)
   carried-follows passed WriteBuffer is =
       buffer-written image b area c m four agree given
-      (subst (λ (r : Entry). bytesOf (r .takes) b (seen (m .disks (b .drive)) .setting) ≤ length given) (row passed WriteBuffer is)
-      (given-enough b (seen (m .disks (b .drive))) (length given) (length area) passed))
+      (subst (λ (r : Entry). bytesOf (r .takes) b (seen (mediumOf (b .drive)) (m .disks (b .drive)) .setting) ≤ length given) (row passed WriteBuffer is)
+      (given-enough b (seen (mediumOf (b .drive)) (m .disks (b .drive))) (length given) (length area) passed))
   carried-follows passed ReadBuffer is = buffer-read image b area c m four agree
   carried-follows passed Initialize is = initialize-follows image b area c m four agree given
   carried-follows passed Unknown is = fault-follows image b area c m four agree 0x20 (b .address)
@@ -102,6 +103,6 @@ obey-follows b given area c image m four agree =
     (unless (judge b v (length given) (length area)) b c (image (b .drive))
     (carryOut b (v .setting) given c (image (b .drive)) (entryOf (b .opcode) .command)))
     (ordered b given (length area) m u))
-    (sym (view-same _ _ u (agree .drives (b .drive))))
-    (verdict-follows image b area c m four agree (judge b (seen u) (length given) (length area)) _ _
+    (sym (view-same _ _ _ u (agree .drives (b .drive) four)))
+    (verdict-follows image b area c m four agree (judge b (seen (mediumOf (b .drive)) u) (length given) (length area)) _ _
     (λ passed. carried-follows b given area c image m four agree passed _ refl))

@@ -2,19 +2,20 @@
 -- into an image between them leaves them.
 use Prim.Native.Nat.{ℕ, zero, suc, _+_, _-_, _*_, _≤_, _<_}
 use mathlib.Core.Path.{_≡_, refl, ap, _∙_}
-use mathlib.Core.Bool.{Bool, true, false}
 use mathlib.Core.List.{List, _++_}
 use native.Mathlib.Omega.{arith}
 use native.Mathlib.Nat.{mul-le-mul-left, min-le-left}
 use lib.ListN.{length, take, length-take, length-replicate}
-use Rattle.base.specs.Pick.{pick}
+use Rattle.base.proofs.Decide.{pick-both}
 use Rattle.base.specs.Part.{part, splice}
 use Rattle.base.proofs.Parts.{length-splice, part-same, part-before, part-after, cell-in}
 use Rattle.geometry.specs.declared.params.Track.{Track}
 use Rattle.geometry.specs.declared.params.Params.{Params}
+use Rattle.geometry.specs.declared.medium.Medium.{Medium}
 use Rattle.geometry.specs.declared.config.Setting.{Setting}
 use Rattle.geometry.specs.declared.config.Setting.the-variants.{Valid, Invalid}
 use Rattle.geometry.specs.Params.{Within, trackCount, trackSize, imageLength, trackStart, trackOf}
+use Rattle.geometry.specs.Medium.{mediumOf}
 use Rattle.geometry.specs.Config.{labelRest}
 use Rattle.geometry.proofs.Labels.{sixteen}
 use Rattle.interleave.specs.Layout.{layoutOf}
@@ -26,9 +27,7 @@ use Rattle.track.specs.Image.{withTrack}
 use Rattle.track.specs.Format.{formatted, soundFrom}
 use Rattle.track.proofs.Formats.{length-slots}
 use Rattle.model.specs.declared.block.Block.{Block}
-use Rattle.model.specs.declared.record.Controller.{Controller}
-use Rattle.model.specs.Block.{fromBuffer}
-use Rattle.model.specs.Commands.{plainFill, fillOf, madeAt, driveFormatted, assigned}
+use Rattle.model.specs.Commands.{plainByte, plainFill, fillOf, madeAt, driveFormatted, assigned}
 
 -- The length, the first `low` bytes, and the bytes past the drive are as before; without parameters all bytes are.
 pub record Outside (low : ℕ) (s : Setting) (before after : List ℕ) : Type 0 where
@@ -98,18 +97,16 @@ module _ (low : ℕ) (front : low ≤ 16) (p : Params) (map fill : List ℕ) (lm
 take-most : (n : ℕ) (l : List ℕ) → length (take n l) ≤ n
 take-most n l = rw (length-take n l) (min-le-left n (length l))
 
-picked-most : (t : Bool) (x y : List ℕ) (n : ℕ) → length x ≤ n → length y ≤ n → length (pick t x y) ≤ n
-unfolding pick
-picked-most true x y n hx hy = hx
-picked-most false x y n hx hy = hy
-
-pub plain-most : (p : Params) → length (plainFill p) ≤ p .size
+pub plain-length : (medium : Medium) (p : Params) → length (plainFill medium p) ≡ p .size
 unfolding plainFill
-plain-most p = rw (length-replicate {A = ℕ} (p .size) 0x6C) (omega arith)
+plain-length medium p = length-replicate (p .size) (plainByte medium)
 
-pub fill-most : (b : Block) (p : Params) (c : Controller) → length (fillOf b p c) ≤ p .size
+pub plain-most : (medium : Medium) (p : Params) → length (plainFill medium p) ≤ p .size
+plain-most medium p = rw (plain-length medium p) (omega arith)
+
+pub fill-most : (b : Block) (p : Params) (buffer : List ℕ) → length (fillOf b p buffer) ≤ p .size
 unfolding fillOf part
-fill-most b p c = picked-most (fromBuffer b) _ _ (p .size) (take-most (p .size) (c .buffer)) (plain-most p)
+fill-most b p buffer = pick-both (λ (l : List ℕ). length l ≤ p .size) _ _ _ (take-most (p .size) buffer) (plain-most (mediumOf (b .drive)) p)
 
 -- ---- Formats
 module _ (low : ℕ) (front : low ≤ 16) (b : Block) (p : Params) (w : Within p) where
@@ -127,7 +124,7 @@ module _ (low : ℕ) (front : low ≤ 16) (b : Block) (p : Params) (w : Within p
         → Outside low (Valid p) image (assigned b p A B fill image)
     unfolding assigned
     assigned-outside A B fill ha hb l =
-        let one = made-outside image fits A (Moved B) (plainFill p) ha (plain-most p) in
+        let one = made-outside image fits A (Moved B) (plainFill (mediumOf (b .drive)) p) ha (plain-most (mediumOf (b .drive)) p) in
         outside-then low (Valid p) image _ _ one (made-outside _ (rw (one .len) fits) B (Taken A) fill hb l)
 
     -- the tracks from the block's to the last, then the label

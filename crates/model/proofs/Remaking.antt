@@ -3,10 +3,11 @@ use Prim.Native.Nat.{ℕ, _<_, _≤_}
 use mathlib.Core.Path.{_≡_, _∙_}
 use mathlib.Core.Bool.{false}
 use mathlib.Core.List.{List, _++_}
-use lib.ListN.{length, length-replicate}
+use lib.ListN.{length}
 use Rattle.geometry.specs.declared.params.Track.{Track}
 use Rattle.geometry.specs.declared.params.Params.{Params}
 use Rattle.geometry.specs.Params.{Within, imageLength, trackCount, trackOf}
+use Rattle.geometry.specs.Medium.{mediumOf}
 use Rattle.geometry.specs.Config.{labelRest}
 use Rattle.geometry.proofs.Labels.{sixteen}
 use Rattle.track.specs.declared.id.State.the-variants.{Sound, Bad, Moved, Taken}
@@ -17,15 +18,12 @@ use Rattle.model.proofs.Mirrors.{stateFor, Mirrors, KeepsLabel}
 use Rattle.model.proofs.Change.{sound-anew, bad-anew, moved-anew, taken-anew, mirrors-but}
 use Rattle.model.proofs.Making.{keeps-then, anew-then, label-then, filled-here, filled-keeps, filled-anew, made-label, made-anew, made-keeps, past-made}
 use Rattle.model.proofs.Sweeping.{mirrors-swept}
+use Rattle.model.proofs.Outside.{plain-length}
 
 -- What is to be shown of a disk and an image after a command.
 pub record Remade (p : Params) (u : Disk) (before after : List ℕ) : Type 0 where
   pub mirror : Mirrors p (u .kind) (u .inter) (u .held) after
   pub keeps : KeepsLabel before after
-
-length-plain : (p : Params) → length (plainFill p) ≡ p .size
-unfolding plainFill
-length-plain p = length-replicate (p .size) 0x6C
 
 module _ (b : Block) (p : Params) (w : Within p) (hf : (0 < b .extra) × (b .extra < p .sectors)) (fill : List ℕ) (lf : length fill ≡ p .size)
     (u : Disk) (image : List ℕ) (fits : imageLength p ≤ length image) where
@@ -66,23 +64,23 @@ module _ (b : Block) (p : Params) (w : Within p) (hf : (0 < b .extra) × (b .ext
     unfolding assignTo assigned stateFor filled
     assign-remade A B hA hB ne mA tA tB mB =
         let f = b .extra in
-        let plain = plainFill p in
+        let plain = plainFill (mediumOf (b .drive)) p in
         let u₁ = becomes A (moved B) f u in
         let image₁ = madeAt b p A (Moved B) plain image in
         let u₂ = becomes B (taken A) f u₁ in
         let image₂ = madeAt b p B (Taken A) fill image₁ in
         let u₃ = filled p A fill u₂ in
-        let label₁ = made-label b p w A hA (moved B) plain (length-plain p) image fits in
+        let label₁ = made-label b p w A hA (moved B) plain (plain-length (mediumOf (b .drive)) p) image fits in
         let fits₁ : imageLength p ≤ length image₁ = rw (label₁ .len) fits in
-        let keeps₁ = made-keeps b p w A hA (moved B) plain (length-plain p) image fits u in
+        let keeps₁ = made-keeps b p w A hA (moved B) plain (plain-length (mediumOf (b .drive)) p) image fits u in
         let keeps₂ = made-keeps b p w B hB (taken A) fill lf image₁ fits₁ u₁ in
         let isA =
         filled-anew p A fill u₂ image₂ A (moved B) f plain
-        (anew-then p u₁ u₂ image₁ image₂ A (moved B) f plain (made-anew b p w A hA (moved B) plain (length-plain p) image fits u) (keeps₂ A hA ne)) in
+        (anew-then p u₁ u₂ image₁ image₂ A (moved B) f plain (made-anew b p w A hA (moved B) plain (plain-length (mediumOf (b .drive)) p) image fits u) (keeps₂ A hA ne)) in
         let isB = filled-anew p A fill u₂ image₂ B (taken A) f fill (made-anew b p w B hB (taken A) fill lf image₁ fits₁ u₁) in
         record {
           mirror = mirrors-but p w u u₃ image image₂ mirror A B mA tA mB tB
-              (moved-anew p w u₃ image₂ f hf A B plain fill hA hB isA isB (length-plain p) lf (filled-here p A fill u₂))
+              (moved-anew p w u₃ image₂ f hf A B plain fill hA hB isA isB (plain-length (mediumOf (b .drive)) p) lf (filled-here p A fill u₂))
               (taken-anew p w u₃ image₂ f hf A B plain fill hA hB isA isB lf)
               (λ v hv notA notB. keeps-then p u u₁ u₃ image image₁ image₂ v (keeps₁ v hv notA)
               (keeps-then p u₁ u₂ u₃ image₁ image₂ image₂ v (keeps₂ v hv notB) (filled-keeps p A fill u₂ image₂ v notA)))

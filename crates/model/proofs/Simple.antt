@@ -12,8 +12,10 @@ use Rattle.base.specs.Same.{sameBytes}
 use Rattle.base.proofs.Bools.{not-false}
 use Rattle.base.proofs.Sames.{same-eq}
 use Rattle.base.proofs.Parts.{length-part}
+use Rattle.geometry.specs.declared.medium.Medium.{Medium}
 use Rattle.geometry.specs.declared.config.Setting.{Setting}
 use Rattle.geometry.specs.declared.config.Setting.the-variants.{Valid, Invalid}
+use Rattle.geometry.specs.Medium.{mediumOf}
 use Rattle.geometry.specs.Config.{settingOf, labelSetting, labelHolds}
 use Rattle.geometry.proofs.Labels.{holds-none, holds-same}
 use Rattle.model.specs.declared.block.Block.{Block}
@@ -29,27 +31,28 @@ use Rattle.model.proofs.Ends.{front, agree-kept, agree-buffer, agree-dr
 use Rattle.model.proofs.Current.{stored-forced}
 
 -- a valid label holds what is stored, and nothing else
-holds-stored : (u : Disk) (image config : List ℕ) {o : Option (List ℕ)} → Stored u image o → labelHolds image config ≡ isStored o config
+holds-stored : (medium : Medium) (u : Disk) (image config : List ℕ) {o : Option (List ℕ)} → Stored medium u image o
+    → labelHolds medium image config ≡ isStored o config
 unfolding isStored
-holds-stored u image config (nothing i) = sym (holds-none image (labelSetting image) refl config i)
-holds-stored u image config (something before p s l i mirror) =
-    sym (holds-same image (labelSetting image) refl p config i) ∙ ap (λ (k : List ℕ). sameBytes k config) l
+holds-stored medium u image config (nothing i) = sym (holds-none medium image (labelSetting medium image) refl config i)
+holds-stored medium u image config (something before p s l i mirror) =
+    sym (holds-same medium image (labelSetting medium image) refl p config i) ∙ ap (λ (k : List ℕ). sameBytes k config) l
 
 is-stored : (o : Option (List ℕ)) (config : List ℕ) → isStored o config ≡ true → some config ≡ o
 unfolding isStored
 is-stored none config e = absurd (false≢true e)
 is-stored (some before) config e = ap {B = Option (List ℕ)} some (sym (same-eq before config e))
 
-drive-initialized : (config : List ℕ) (pending : Bool) (entry : Drive) (image : List ℕ) (u : Disk) → Drives entry image u
+drive-initialized : (medium : Medium) (config : List ℕ) (pending : Bool) (entry : Drive) (image : List ℕ) (u : Disk) → Drives medium entry image u
     → pending ≡ not (isStored (u .stored) config)
-    → Drives (initialized config pending entry) image (inForce (some config) (not (isStored (u .stored) config)) u)
+    → Drives medium (initialized config pending entry) image (inForce (some config) (not (isStored (u .stored) config)) u)
 unfolding initialized inForce pick
-drive-initialized config pending entry image u drive same = record {
+drive-initialized medium config pending entry image u drive same = record {
   len = drive .len;
   force = refl;
   pending = sym same;
   settled = λ e. is-stored (u .stored) config (not-false _ e);
-  stored = stored-forced u image (some config) _ (drive .stored);
+  stored = stored-forced medium u image (some config) _ (drive .stored);
   sense = drive .sense;
 }
 
@@ -84,17 +87,17 @@ module _ (image : ℕ → List ℕ) (b : Block) (area : List ℕ) (c : Controlle
   unfolding initializedBy initializeBy
   initialized-follows Invalid config = fault-follows image b area c m four agree 0x22 (b .address)
   initialized-follows (Valid p) config =
-      let before = agree .drives (b .drive) in
+      let before = agree .drives (b .drive) four in
       well-follows image b area four 0 [] (withDrive (b .drive) _ c) (image (b .drive)) (withDisk (b .drive) _ m) refl
       (agree-drive c image m agree (b .drive) four _ (image (b .drive)) _ (initialized-sense config _ (driveAt c (b .drive)))
-      (drive-initialized config _ (driveAt c (b .drive)) (image (b .drive)) (m .disks (b .drive)) before
-      (ap not (holds-stored (m .disks (b .drive)) (image (b .drive)) config (before .stored)))))
+      (drive-initialized _ config _ (driveAt c (b .drive)) (image (b .drive)) (m .disks (b .drive)) before
+      (ap not (holds-stored _ (m .disks (b .drive)) (image (b .drive)) config (before .stored)))))
 
   pub initialize-follows : (given : List ℕ) → Follows image b area (initialize b given c (image (b .drive)))
-      (initializeBy (settingOf (take 10 given) (m .disks (b .drive) .len)) b (take 10 given) m (m .disks (b .drive)))
+      (initializeBy (settingOf (mediumOf (b .drive)) (take 10 given) (m .disks (b .drive) .len)) b (take 10 given) m (m .disks (b .drive)))
   unfolding initialize part
   initialize-follows given =
       subst
       (λ (n : ℕ). Follows image b area (initialize b given c (image (b .drive)))
-      (initializeBy (settingOf (take 10 given) n) b (take 10 given) m (m .disks (b .drive))))
-      (sym (agree .drives (b .drive) .len)) (initialized-follows (settingOf (take 10 given) (length (image (b .drive)))) (take 10 given))
+      (initializeBy (settingOf (mediumOf (b .drive)) (take 10 given) n) b (take 10 given) m (m .disks (b .drive))))
+      (sym (agree .drives (b .drive) four .len)) (initialized-follows (settingOf (mediumOf (b .drive)) (take 10 given) (length (image (b .drive)))) (take 10 given))

@@ -11,6 +11,7 @@ use Rattle.base.specs.Part.{splice}
 use Rattle.base.proofs.Decide.{pick-true, pick-false}
 use Rattle.geometry.specs.declared.params.Params.{Params}
 use Rattle.geometry.specs.Params.{Within, trackCount}
+use Rattle.geometry.specs.Medium.{mediumOf}
 use Rattle.sectors.specs.Transfer.{Transfer, begun, reading, writing}
 use Rattle.model.specs.declared.block.Block.{Block}
 use Rattle.model.specs.declared.record.Controller.{Controller}
@@ -32,7 +33,7 @@ drive-buffered bytes c d = refl
 
 module _ (image : ℕ → List ℕ) (b : Block) (area : List ℕ) (c : Controller) (m : Machine) (four : b .drive < 4) (agree : Agrees c image m) where
   module _ (p : Params) (w : Within p) (n : ℕ) (x : Transfer) (y : Passage) (together : Together p n (b .address .0) x y)
-      (len : length (x .image) ≡ length (image (b .drive))) (drive : Drives (driveAt c (b .drive)) (x .image) (y .disk)) where
+      (len : length (x .image) ≡ length (image (b .drive))) (drive : Drives (mediumOf (b .drive)) (driveAt c (b .drive)) (x .image) (y .disk)) where
     left : Agrees (withBuffer (splice 0 (x .last) (c .buffer)) c) (changed image (b .drive) (x .image))
         (withDisk (b .drive) (y .disk) (buffering (leaving (y .sectors) (m .buffer)) m))
     left =
@@ -55,10 +56,10 @@ module _ (image : ℕ → List ℕ) (b : Block) (area : List ℕ) (c : Controlle
             rw (fault, pick-false (eqb (x .code) 0) _ _ (ne-eqb (x .code) 0 e), ← together .done)
             (failing-follows image b area four (x .done) (x .handed) _ (x .image) _ len left (x .code) (record { 0 = b .address .0 + x .done }))
 
-  module _ (p : Params) (force : InForce (driveAt c (b .drive)) (image (b .drive)) (m .disks (b .drive)) p) (calm : m .disks (b .drive) .pending ≡ false)
+  module _ (p : Params) (force : InForce (mediumOf (b .drive)) (driveAt c (b .drive)) (image (b .drive)) (m .disks (b .drive)) p) (calm : m .disks (b .drive) .pending ≡ false)
       (inside : b .address .0 + countOf b ≤ trackCount p * p .sectors) where
     mirror : Mirrors p (m .disks (b .drive) .kind) (m .disks (b .drive) .inter) (m .disks (b .drive) .held) (image (b .drive))
-    mirror = mirrored _ _ _ (agree .drives (b .drive)) p force calm
+    mirror = mirrored _ _ _ _ (agree .drives (b .drive) four) p force calm
 
     pub read-follows : Follows image b area (readOn b p c (image (b .drive))) (read b p m (m .disks (b .drive)))
     unfolding readOn read
@@ -70,7 +71,7 @@ module _ (image : ℕ → List ℕ) (b : Block) (area : List ℕ) (c : Controlle
         let y = readFrom p n a u in
         let i = read-image p (force .within) u (image (b .drive)) (force .fits) mirror n a inside in
         let v = read-disk p (force .within) u (image (b .drive)) (force .fits) mirror n a inside in
-        let drive : Drives (driveAt c (b .drive)) (x .image) (y .disk) = rw (i, v) (agree .drives (b .drive)) in
+        let drive : Drives (mediumOf (b .drive)) (driveAt c (b .drive)) (x .image) (y .disk) = rw (i, v) (agree .drives (b .drive) four) in
         subst (λ (handed : List ℕ). Follows image b area (transferred b c x) (transfer b y handed m))
         (read-handed p (force .within) u (image (b .drive)) (force .fits) mirror n a inside)
         (transfer-follows p (force .within) n x y (read-together p (force .within) u (image (b .drive)) (force .fits) mirror n a inside)
@@ -86,7 +87,7 @@ module _ (image : ℕ → List ℕ) (b : Block) (area : List ℕ) (c : Controlle
         let x = writing p n a given (begun (image (b .drive))) in
         let y = writeFrom p n a given u in
         let keeps = write-keeps p (force .within) u (image (b .drive)) (force .fits) mirror n a inside given enough in
-        let drive = drive-again _ _ u (agree .drives (b .drive)) p force calm (y .disk) (x .image)
+        let drive = drive-again _ _ _ u (agree .drives (b .drive) four) p force calm (y .disk) (x .image)
         (write-only p (force .within) u (image (b .drive)) (force .fits) mirror n a inside given enough) keeps
         (write-mirror p (force .within) u (image (b .drive)) (force .fits) mirror n a inside given enough) in
         subst (λ (handed : List ℕ). Follows image b area (transferred b c x) (transfer b y handed m))

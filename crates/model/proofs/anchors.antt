@@ -1,5 +1,6 @@
 -- Facts that pin claim and definitions where the claim alone would not show a slip.
 pub mod Session
+pub mod Floppies
 pub mod Sectors
 pub mod Transfers
 pub mod Order

@@ -5,9 +5,11 @@ use mathlib.Core.List.{List, [], _∷_}
 use lib.Dec.{leb, ltb, eqb}
 use Rattle.base.specs.Pick.{pick}
 use Rattle.geometry.specs.declared.params.Lba.{Lba}
+use Rattle.geometry.specs.declared.medium.Medium.{Medium}
 use Rattle.geometry.specs.declared.config.Setting.{Setting}
 use Rattle.geometry.specs.declared.config.Setting.the-variants.{Valid, Invalid}
 use Rattle.geometry.specs.Params.{trackOf, lastAddress}
+use Rattle.geometry.specs.Medium.{isFloppy}
 use Rattle.geometry.specs.Config.{isValid}
 use Rattle.model.specs.declared.block.Block.{Block}
 use Rattle.model.specs.declared.table.Entry.{Entry}
@@ -34,6 +36,7 @@ judged (test ∷ tests) after = pick (test .hit) (Faulty (test .code) (test .at)
 
 -- What the checks see of the drive named.
 pub record View : Type 0 where
+  pub medium : Medium
   pub present : Bool
   pub setting : Setting
   pub pending : Bool
@@ -45,6 +48,10 @@ presentWith image = leb 16 image
 -- Only control bit 7, without effect, and 5 where named are defined.
 unfoldable pub controlWrong : Entry → (control : ℕ) → Bool
 controlWrong e control = not (eqb (control % 128) 0 || (e .fill && eqb (control % 128) 32))
+
+-- A command that the drive lacks: those for hard disks only, on a floppy (request E3).
+unfoldable pub lacks : Medium → Entry → Bool
+lacks medium e = e .hard && isFloppy medium
 
 -- The sectors from the address on that must be on the drive.
 unfoldable pub reach : Entry → Block → ℕ
@@ -59,11 +66,12 @@ testsWith e b pending (Valid p) =
     ∷ on (pending && e .settled && not (e .whole && eqb (trackOf p (b .address) .0) 0)) 0x16 (b .address)
     ∷ []
 
--- 20h; byte 1 bit 7, or an undefined control bit, 22h; absent, 04h; no parameters, 0Ah; then those above.
+-- 20h; byte 1 bit 7, a command that the drive lacks, or an undefined control bit, 22h; absent, 04h; no parameters, 0Ah; then
+-- those above.
 unfoldable pub tests : Entry → Block → View → List Test
 tests e b v =
     on (not (e .known)) 0x20 (b .address)
-    ∷ on (b .top || (e .address && controlWrong e (b .control))) 0x22 (b .address)
+    ∷ on (b .top || (lacks (v .medium) e || (e .address && controlWrong e (b .control)))) 0x22 (b .address)
     ∷ on (e .drive && not (v .present)) 0x04 (b .address)
     ∷ on (e .parameters && not (isValid (v .setting))) 0x0A (b .address)
     ∷ testsWith e b (v .pending) (v .setting)

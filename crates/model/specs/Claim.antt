@@ -1,6 +1,6 @@
 -- Demand 3 of document 01, one claim about every list of commands and resets: the engine answers as the plain machine does,
 -- and at the end it holds what the machine holds.
-use Prim.Native.Nat.{ℕ}
+use Prim.Native.Nat.{ℕ, _<_}
 use mathlib.Core.Path.{_≡_}
 use mathlib.Core.Bool.{Bool, true, false}
 use mathlib.Core.Option.{some}
@@ -9,8 +9,10 @@ use lib.ListN.{length, take}
 use Rattle.geometry.specs.declared.params.Lba.{Lba}
 use Rattle.geometry.specs.declared.params.Track.{Track}
 use Rattle.geometry.specs.declared.params.Params.{Params}
+use Rattle.geometry.specs.declared.medium.Medium.{Medium}
 use Rattle.geometry.specs.declared.config.Setting.the-variants.{Valid, Invalid}
 use Rattle.geometry.specs.Params.{trackOf, sectorOf}
+use Rattle.geometry.specs.Medium.{mediumOf}
 use Rattle.geometry.specs.Config.{settingOf, labelSetting}
 use Rattle.track.specs.Image.{trackBytes, slotData}
 use Rattle.track.specs.Find.{Slot, sectorFound}
@@ -32,8 +34,7 @@ atEnd m (call ∷ calls) = atEnd (step m call .1) calls
 -- ---- The engine: the controller and the images lent
 pub record State : Type 0 where
   pub controller : Controller
-  pub image0 : List ℕ
-  pub image1 : List ℕ
+  pub images : List (List ℕ)
 
 -- A Reset, or a command of any bytes and lengths; of the data area its old bytes.
 pub data Order : Type 0 where
@@ -60,13 +61,13 @@ replyOf answer area = record {
 unfoldable pub replied : Result → Reply × State
 replied r = (
   replyOf (r .outcome .answer) (r .area),
-  record { controller = r .outcome .controller; image0 = r .image0; image1 = r .image1 },
+  record { controller = r .outcome .controller; images = r .images },
 )
 
 -- One call: what `reset` and `execute` promise to leave.
 unfoldable pub called : State → Order → Reply × State
-called s Reset = replied (record { outcome = resetOf (s .image0) (s .image1); area = []; image0 = s .image0; image1 = s .image1 })
-called s (Command block given area) = replied (execute (s .controller) block given area (s .image0) (s .image1))
+called s Reset = replied (record { outcome = resetOf (s .images); area = []; images = s .images })
+called s (Command block given area) = replied (execute (s .controller) block given area (s .images))
 
 -- A list of calls, each of which gets the controller and the images that the call before left: its replies, and what is left
 -- at the end.
@@ -79,12 +80,12 @@ engineAtEnd s [] = s
 engineAtEnd s (order ∷ orders) = engineAtEnd (called s order .1) orders
 
 -- ---- From a fresh controller and images without a valid label, such as zeros: no configuration is stored
-unfoldable pub begin : (image0 image1 : List ℕ) → State
-begin image0 image1 = record { controller = fresh image0 image1; image0 = image0; image1 = image1 }
+unfoldable pub begin : (images : List (List ℕ)) → State
+begin images = record { controller = fresh images; images = images }
 
 -- The machine is fed the image lengths.
-unfoldable pub beginMachine : (image0 image1 : List ℕ) → Machine
-beginMachine image0 image1 = freshMachine (λ drive. length (imageOf drive image0 image1))
+unfoldable pub beginMachine : (images : List (List ℕ)) → Machine
+beginMachine images = freshMachine (λ drive. length (imageOf drive images))
 
 -- ---- What is held
 unfoldable pub isHeld : Kind → Bool
@@ -96,19 +97,20 @@ isHeld (taken u) = false
 
 -- The stored configuration is valid with the image, and for each address on a sound or moved track under it finding gives no
 -- error but a slot whose D bytes are the machine's.
-unfoldable pub Holds : Disk → (image : List ℕ) → Type 0
-Holds u image =
+unfoldable pub Holds : Medium → Disk → (image : List ℕ) → Type 0
+Holds medium u image =
     (config : List ℕ) → u .stored ≡ some config
-    → (p : Params) × (settingOf config (length image) ≡ Valid p)
+    → (p : Params) × (settingOf medium config (length image) ≡ Valid p)
     × ((a : Lba) → isHeld (u .kind (trackOf p a)) ≡ true
     → (t : Track) × (k : ℕ) × (sectorFound p (trackOf p a) (sectorOf p a) image ≡ Slot t k)
     × (slotData p k (trackBytes p t image) ≡ u .held a))
 
--- ---- The claim
+-- ---- The claim: over the images of the four drives
 unfoldable pub Claim : Type 0
 Claim =
-    (image0 image1 : List ℕ) → labelSetting image0 ≡ Invalid → labelSetting image1 ≡ Invalid
+    (images : List (List ℕ)) → ((drive : ℕ) → drive < 4 → labelSetting (mediumOf drive) (imageOf drive images) ≡ Invalid)
     → (orders : List Order)
-    → let s = engineAtEnd (begin image0 image1) orders in
-    (engineReplies (begin image0 image1) orders ≡ replies (beginMachine image0 image1) (map fed orders))
-    × ((drive : ℕ) → Holds (atEnd (beginMachine image0 image1) (map fed orders) .disks drive) (imageOf drive (s .image0) (s .image1)))
+    → let s = engineAtEnd (begin images) orders in
+    (engineReplies (begin images) orders ≡ replies (beginMachine images) (map fed orders))
+    × ((drive : ℕ) → drive < 4
+    → Holds (mediumOf drive) (atEnd (beginMachine images) (map fed orders) .disks drive) (imageOf drive (s .images)))

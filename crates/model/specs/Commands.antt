@@ -1,6 +1,6 @@
 -- Document 01, 'Commands': each command's own checks, and what it does to the controller and the image of its drive.
 use Prim.Native.Nat.{ℕ, _+_, _-_}
-use mathlib.Core.Bool.{Bool, true, false, not, _||_}
+use mathlib.Core.Bool.{Bool, true, false, not, _&&_, _||_}
 use mathlib.Core.List.{List, [], _∷_, _++_}
 use lib.ListN.{length, replicate}
 use lib.Dec.{ltb, eqb}
@@ -9,9 +9,12 @@ use Rattle.base.specs.Part.{part, splice}
 use Rattle.geometry.specs.declared.params.Lba.{Lba}
 use Rattle.geometry.specs.declared.params.Track.{Track}
 use Rattle.geometry.specs.declared.params.Params.{Params}
+use Rattle.geometry.specs.declared.medium.Medium.{Medium}
+use Rattle.geometry.specs.declared.medium.Medium.the-variants.{HardDisk, Floppy}
 use Rattle.geometry.specs.declared.config.Setting.{Setting}
 use Rattle.geometry.specs.declared.config.Setting.the-variants.{Valid, Invalid}
 use Rattle.geometry.specs.Params.{trackCount, trackOf, lastAddress}
+use Rattle.geometry.specs.Medium.{mediumOf, isFloppy}
 use Rattle.geometry.specs.Config.{byte, settingOf, labelRest, labelHolds}
 use Rattle.interleave.specs.Layout.{layoutOf}
 use Rattle.track.specs.declared.id.State.{State}
@@ -58,12 +61,18 @@ requestSense b c image = record {
   image = image;
 }
 
--- ---- What formatting fills the data with: 6Ch, or with control bit 5 the buffer's first D bytes.
-unfoldable pub plainFill : Params → List ℕ
-plainFill p = replicate (p .size) 0x6C
+-- ---- What formatting fills the data with: on a floppy E5h (request E3); on a hard disk 6Ch, or with control bit 5 the buffer's
+-- first D bytes.
+unfoldable pub plainByte : Medium → ℕ
+plainByte HardDisk = 0x6C
+plainByte Floppy = 0xE5
 
-unfoldable pub fillOf : Block → Params → Controller → List ℕ
-fillOf b p c = pick (fromBuffer b) (part 0 (p .size) (c .buffer)) (plainFill p)
+unfoldable pub plainFill : Medium → Params → List ℕ
+plainFill medium p = replicate (p .size) (plainByte medium)
+
+unfoldable pub fillOf : Block → Params → (buffer : List ℕ) → List ℕ
+fillOf b p buffer =
+    pick (fromBuffer b && not (isFloppy (mediumOf (b .drive)))) (part 0 (p .size) buffer) (plainFill (mediumOf (b .drive)) p)
 
 -- The image with track t formatted, with the block's interleave.
 unfoldable pub madeAt : Block → Params → Track → State → (fill image : List ℕ) → List ℕ
@@ -83,7 +92,7 @@ unfoldable pub formatDrive : Block → Params → Controller → (image : List �
 formatDrive b p c image =
     unless (judged (on (pairSplit p (trackOf p (b .address)) image) 0x1D (b .address) ∷ []) Passed) b c image
     (good b 0 [] (withDrive (b .drive) (settled (driveAt c (b .drive))) c)
-    (driveFormatted b p (driveAt c (b .drive) .config) (fillOf b p c) image))
+    (driveFormatted b p (driveAt c (b .drive) .config) (fillOf b p (c .buffer)) image))
 
 -- ---- 05 Check Track: slot 0 as for finding a sector; then every slot's ID bytes; else 1Ah.
 unfoldable pub checkTests : (code : ℕ) → Lba → List Test
@@ -132,7 +141,7 @@ assignTests p first a alternate stateA stateB =
 
 -- Then both are formatted with the block's interleave, A as moved to B, B as taken by A. The buffer's fill reaches B only.
 unfoldable pub assigned : Block → Params → (A B : Track) → (fill image : List ℕ) → List ℕ
-assigned b p A B fill image = madeAt b p B (Taken A) fill (madeAt b p A (Moved B) (plainFill p) image)
+assigned b p A B fill image = madeAt b p B (Taken A) fill (madeAt b p A (Moved B) (plainFill (mediumOf (b .drive)) p) image)
 
 unfoldable pub assignAlternate : Block → Params → (given : List ℕ) → Controller → (image : List ℕ) → Effect
 assignAlternate b p given c image =
@@ -142,7 +151,7 @@ assignAlternate b p given c image =
     (stateOf p (trackOf p (b .address)) image) (stateOf p (trackOf p (alternateOf given)) image))
     Passed)
     b c image
-    (good b 0 [] c (assigned b p (trackOf p (b .address)) (trackOf p (alternateOf given)) (fillOf b p c) image))
+    (good b 0 [] c (assigned b p (trackOf p (b .address)) (trackOf p (alternateOf given)) (fillOf b p (c .buffer)) image))
 
 -- ---- 11h Initialize: takes the 10 configuration bytes; not valid, 22h. They come into force, not pending where they are a
 -- valid label's (request E1), else pending. The image is untouched.
@@ -152,10 +161,10 @@ initialized config pending entry = record { sense = entry .sense; config = confi
 unfoldable pub initializedBy : Setting → Block → (config : List ℕ) → Controller → (image : List ℕ) → Effect
 initializedBy Invalid b config c image = failed b 0x22 (b .address) 0 [] c image
 initializedBy (Valid p) b config c image =
-    good b 0 [] (withDrive (b .drive) (initialized config (not (labelHolds image config)) (driveAt c (b .drive))) c) image
+    good b 0 [] (withDrive (b .drive) (initialized config (not (labelHolds (mediumOf (b .drive)) image config)) (driveAt c (b .drive))) c) image
 
 unfoldable pub initialize : Block → (given : List ℕ) → Controller → (image : List ℕ) → Effect
-initialize b given c image = initializedBy (settingOf (part 0 10 given) (length image)) b (part 0 10 given) c image
+initialize b given c image = initializedBy (settingOf (mediumOf (b .drive)) (part 0 10 given) (length image)) b (part 0 10 given) c image
 
 -- ---- A command that needs parameters; without them 0Ah, which has been tested for before.
 unfoldable pub onDisk : Setting → Block → Controller → (image : List ℕ) → (Params → Effect) → Effect
@@ -169,8 +178,8 @@ carryOut b setting given c image Recalibrate = good b 0 [] c image
 carryOut b setting given c image RequestSense = requestSense b c image
 carryOut b setting given c image FormatDrive = onDisk setting b c image (λ p. formatDrive b p c image)
 carryOut b setting given c image CheckTrack = onDisk setting b c image (λ p. checkTrack b p c image)
-carryOut b setting given c image FormatTrack = onDisk setting b c image (λ p. formatTrack b p Sound (fillOf b p c) c image)
-carryOut b setting given c image FormatBadTrack = onDisk setting b c image (λ p. formatTrack b p Bad (plainFill p) c image)
+carryOut b setting given c image FormatTrack = onDisk setting b c image (λ p. formatTrack b p Sound (fillOf b p (c .buffer)) c image)
+carryOut b setting given c image FormatBadTrack = onDisk setting b c image (λ p. formatTrack b p Bad (plainFill (mediumOf (b .drive)) p) c image)
 carryOut b setting given c image Read = onDisk setting b c image (λ p. read b p c image)
 carryOut b setting given c image Write = onDisk setting b c image (λ p. write b p given c image)
 carryOut b setting given c image Seek = good b 0 [] c image

@@ -2,12 +2,14 @@
 use Prim.Native.Nat.{ℕ}
 use mathlib.Core.Bool.{true, false}
 use mathlib.Core.List.{List, [], _∷_}
-use lib.ListN.{length, replicate}
+use lib.ListN.{length, getD, set, replicate}
 use lib.Dec.{eqb}
 use Rattle.base.specs.Pick.{pick}
 use Rattle.base.specs.Part.{splice}
+use Rattle.geometry.specs.declared.medium.Medium.{Medium}
 use Rattle.geometry.specs.declared.config.Setting.{Setting}
 use Rattle.geometry.specs.declared.config.Setting.the-variants.{Valid, Invalid}
+use Rattle.geometry.specs.Medium.{mediumOf}
 use Rattle.geometry.specs.Config.{labelConfig, labelSetting}
 use Rattle.model.specs.declared.block.Block.{Block}
 use Rattle.model.specs.declared.record.Drive.{Drive}
@@ -20,46 +22,45 @@ use Rattle.model.specs.Record.{blankDrive, driveAt, settingIn, bareOutco
 use Rattle.model.specs.Commands.{carryOut}
 
 -- ---- A command of six bytes on the image of the drive that it names
-unfoldable pub viewOf : Drive → (image : ℕ) → View
-viewOf entry image = record { present = presentWith image; setting = settingIn entry image; pending = entry .pending }
+unfoldable pub viewOf : Medium → Drive → (image : ℕ) → View
+viewOf medium entry image =
+    record { medium = medium; present = presentWith image; setting = settingIn medium entry image; pending = entry .pending }
 
 -- The order of checks with numbers 2 and 3, then the command.
 unfoldable pub obey : Block → (given : List ℕ) → (area : ℕ) → Controller → (image : List ℕ) → Effect
 obey b given area c image =
-    unless (judge b (viewOf (driveAt c (b .drive)) (length image)) (length given) area) b c image
-    (carryOut b (settingIn (driveAt c (b .drive)) (length image)) given c image (entryOf (b .opcode) .command))
+    unless (judge b (viewOf (mediumOf (b .drive)) (driveAt c (b .drive)) (length image)) (length given) area) b c image
+    (carryOut b (settingIn (mediumOf (b .drive)) (driveAt c (b .drive)) (length image)) given c image (entryOf (b .opcode) .command))
 
 -- ---- All that a call leaves
 pub record Result : Type 0 where
   pub outcome : Outcome
   pub area : List ℕ
-  pub image0 : List ℕ
-  pub image1 : List ℕ
+  pub images : List (List ℕ)
 
--- Drives 2 and 3 are absent: they have no image, so that one of no bytes stands for theirs.
-unfoldable pub imageOf : (drive : ℕ) → (image0 image1 : List ℕ) → List ℕ
-imageOf drive image0 image1 = pick (eqb drive 0) image0 (pick (eqb drive 1) image1 [])
+-- The images lent, by the numbers of their drives: two hard disks, then two floppies.
+abbrev pub imagesOf : (image0 image1 image2 image3 : List ℕ) → List (List ℕ)
+imagesOf image0 image1 image2 image3 = image0 ∷ image1 ∷ image2 ∷ image3 ∷ []
+
+-- A drive for which no image is lent has one of no bytes, so that it is absent.
+unfoldable pub imageOf : (drive : ℕ) → (images : List (List ℕ)) → List ℕ
+imageOf drive images = getD images drive []
 
 -- The data area past the bytes handed over stays, and so does the image of every other drive.
-unfoldable pub left : (drive : ℕ) → Effect → (area image0 image1 : List ℕ) → Result
-left drive effect area image0 image1 = record {
-  outcome = effect .outcome;
-  area = splice 0 (effect .handed) area;
-  image0 = pick (eqb drive 0) (effect .image) image0;
-  image1 = pick (eqb drive 1) (effect .image) image1;
-}
+unfoldable pub left : (drive : ℕ) → Effect → (area : List ℕ) → (images : List (List ℕ)) → Result
+left drive effect area images =
+    record { outcome = effect .outcome; area = splice 0 (effect .handed) area; images = set images drive (effect .image) }
 
 -- A command on the image of the drive that it names.
-abbrev pub onImages : Block → (given : List ℕ) → Controller → (area image0 image1 : List ℕ) → Result
-onImages b given c area image0 image1 =
-    left (b .drive) (obey b given (length area) c (imageOf (b .drive) image0 image1)) area image0 image1
+abbrev pub onImages : Block → (given : List ℕ) → Controller → (area : List ℕ) → (images : List (List ℕ)) → Result
+onImages b given c area images = left (b .drive) (obey b given (length area) c (imageOf (b .drive) images)) area images
 
 -- A block that is not six bytes: number 1, all unchanged.
-unfoldable pub execute : Controller → (block given area image0 image1 : List ℕ) → Result
-execute c block given area image0 image1 =
+unfoldable pub execute : Controller → (block given area : List ℕ) → (images : List (List ℕ)) → Result
+execute c block given area images =
     pick (eqb (length block) 6)
-    (onImages (blockOf block) given c area image0 image1)
-    (record { outcome = bareOutcome 1 c; area = area; image0 = image0; image1 = image1 })
+    (onImages (blockOf block) given c area images)
+    (record { outcome = bareOutcome 1 c; area = area; images = images })
 
 -- ---- Reset: the buffer and all sixteen sense bytes are zero. A valid label comes into force, not pending; otherwise the
 -- drive has no parameters.
@@ -67,13 +68,17 @@ unfoldable pub loadedBy : Setting → (config : List ℕ) → Drive
 loadedBy Invalid config = blankDrive
 loadedBy (Valid p) config = record { sense = replicate 4 0; config = config; known = true; pending = false }
 
-unfoldable pub loaded : (image : List ℕ) → Drive
-loaded image = loadedBy (labelSetting image) (labelConfig image)
+unfoldable pub loaded : (drive : ℕ) → (image : List ℕ) → Drive
+loaded drive image = loadedBy (labelSetting (mediumOf drive) image) (labelConfig image)
 
 -- Fresh means after Reset.
-unfoldable pub fresh : (image0 image1 : List ℕ) → Controller
-fresh image0 image1 = record { buffer = replicate 512 0; drives = loaded image0 ∷ loaded image1 ∷ loaded [] ∷ loaded [] ∷ [] }
+unfoldable pub fresh : (images : List (List ℕ)) → Controller
+fresh images = record {
+  buffer = replicate 512 0;
+  drives =
+      loaded 0 (imageOf 0 images) ∷ loaded 1 (imageOf 1 images) ∷ loaded 2 (imageOf 2 images) ∷ loaded 3 (imageOf 3 images) ∷ [];
+}
 
 -- It answers zeros and changes no image.
-unfoldable pub resetOf : (image0 image1 : List ℕ) → Outcome
-resetOf image0 image1 = bareOutcome 0 (fresh image0 image1)
+unfoldable pub resetOf : (images : List (List ℕ)) → Outcome
+resetOf images = bareOutcome 0 (fresh images)

@@ -1,8 +1,8 @@
 -- Document 01, 'The plain machine': no image, no slot, no byte of a label.
 --
--- With the engine it shares what the paper shares: validity and geometry of a configuration, presence of a drive, a block's
--- fields, the table and the order of checks with the lengths of data, the layout of sense bytes, sameness of bytes. All else is
--- written out here.
+-- With the engine it shares what the paper shares: which drives are floppies, validity and geometry of a configuration,
+-- presence of a drive, a block's fields, the table and the order of checks with the lengths of data, the layout of sense bytes,
+-- sameness of bytes. All else is written out here.
 use Prim.Native.Nat.{ℕ, zero, suc, _+_, _*_}
 use mathlib.Core.Bool.{Bool, true, false, not, _&&_, _||_}
 use mathlib.Core.Option.{Option, none, some}
@@ -14,9 +14,12 @@ use Rattle.base.specs.Same.{sameBytes}
 use Rattle.geometry.specs.declared.params.Lba.{Lba}
 use Rattle.geometry.specs.declared.params.Track.{Track}
 use Rattle.geometry.specs.declared.params.Params.{Params}
+use Rattle.geometry.specs.declared.medium.Medium.{Medium}
+use Rattle.geometry.specs.declared.medium.Medium.the-variants.{HardDisk, Floppy}
 use Rattle.geometry.specs.declared.config.Setting.{Setting}
 use Rattle.geometry.specs.declared.config.Setting.the-variants.{Valid, Invalid}
 use Rattle.geometry.specs.Params.{trackCount, trackOf}
+use Rattle.geometry.specs.Medium.{mediumOf}
 use Rattle.geometry.specs.Config.{byte, settingOf}
 use Rattle.model.specs.declared.block.Block.{Block}
 use Rattle.model.specs.declared.table.Command.{Command}
@@ -248,12 +251,13 @@ transfer b x handed m =
     transferBy (x .end) b (length (x .sectors)) handed m
     (withDisk (b .drive) (x .disk) (withBuffer (leaving (x .sectors) (m .buffer)) m))
 
--- ---- Formats: the fill is 6Ch, or with control bit 5 the buffer's first D bytes
-unfoldable pub plain : Params → List ℕ
-plain p = replicate (p .size) 0x6C
+-- ---- Formats: the fill is E5h on a floppy; on a hard disk 6Ch, or with control bit 5 the buffer's first D bytes
+unfoldable pub fillingOn : Medium → Block → Params → Machine → List ℕ
+fillingOn HardDisk b p m = pick (fromBuffer b) (take (p .size) (m .buffer)) (replicate (p .size) 0x6C)
+fillingOn Floppy b p m = replicate (p .size) 0xE5
 
 unfoldable pub filling : Block → Params → Machine → List ℕ
-filling b p m = pick (fromBuffer b) (take (p .size) (m .buffer)) (plain p)
+filling b p m = fillingOn (mediumOf (b .drive)) b p m
 
 -- Format Drive: tracks from s to the last are sound, with their interleave and fill; the states of tracks past the last are
 -- forgotten; the configuration in force is stored; pending ends.
@@ -341,21 +345,22 @@ carried b setting given m u Seek = well b 0 [] m
 carried b setting given m u AssignAlternate = withParameters setting b m (λ p. assignAlternate b p given m u)
 carried b setting given m u WriteBuffer = well b 0 [] (withBuffer (take 512 given) m)
 carried b setting given m u ReadBuffer = well b 0 (m .buffer) m
-carried b setting given m u Initialize = initializeBy (settingOf (take 10 given) (u .len)) b (take 10 given) m u
+carried b setting given m u Initialize = initializeBy (settingOf (mediumOf (b .drive)) (take 10 given) (u .len)) b (take 10 given) m u
 carried b setting given m u Unknown = failing b 0x20 (b .address) 0 [] m
 
 -- ---- The order of checks, then the command
-unfoldable pub settingWith : Option (List ℕ) → (len : ℕ) → Setting
-settingWith none len = Invalid
-settingWith (some config) len = settingOf config len
+unfoldable pub settingWith : Medium → Option (List ℕ) → (len : ℕ) → Setting
+settingWith medium none len = Invalid
+settingWith medium (some config) len = settingOf medium config len
 
-unfoldable pub seen : Disk → View
-seen u = record { present = presentWith (u .len); setting = settingWith (u .force) (u .len); pending = u .pending }
+unfoldable pub seen : Medium → Disk → View
+seen medium u =
+    record { medium = medium; present = presentWith (u .len); setting = settingWith medium (u .force) (u .len); pending = u .pending }
 
 unfoldable pub ordered : Block → (given : List ℕ) → (area : ℕ) → Machine → Disk → Reply × Machine
 ordered b given area m u =
-    providing (judge b (seen u) (length given) area) b m
-    (carried b (seen u .setting) given m u (entryOf (b .opcode) .command))
+    let view = seen (mediumOf (b .drive)) u in
+    providing (judge b view (length given) area) b m (carried b (view .setting) given m u (entryOf (b .opcode) .command))
 
 -- ---- Reset drops pending and returns to the stored configuration, map unchanged; buffer and senses are zero.
 unfoldable pub restored : Disk → Disk

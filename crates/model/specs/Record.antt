@@ -4,6 +4,7 @@ use mathlib.Core.Bool.{false}
 use mathlib.Core.List.{List, []}
 use lib.ListN.{length, getD, set, replicate}
 use Rattle.geometry.specs.declared.params.Lba.{Lba}
+use Rattle.geometry.specs.declared.medium.Medium.{Medium}
 use Rattle.geometry.specs.declared.config.Setting.{Setting}
 use Rattle.geometry.specs.declared.config.Setting.the-variants.{Invalid}
 use Rattle.geometry.specs.Config.{settingOf}
@@ -41,8 +42,8 @@ unfoldable pub withSense : (drive : ℕ) → List ℕ → Controller → Control
 withSense drive sense c = withDrive drive (sensed sense (driveAt c drive)) c
 
 -- Parameters not valid with the image lent at a call count there as none.
-unfoldable pub settingIn : Drive → (image : ℕ) → Setting
-settingIn entry image = pick (entry .known) (settingOf (entry .config) image) Invalid
+unfoldable pub settingIn : Medium → Drive → (image : ℕ) → Setting
+settingIn medium entry image = pick (entry .known) (settingOf medium (entry .config) image) Invalid
 
 -- ---- How a call ends
 -- Status, message and counts 0: with numbers 1, 2 and 3, and with number 0 the answer to Reset.

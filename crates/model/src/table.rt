@@ -48,6 +48,8 @@ pub struct Entry {
     pub settled: bool,
     // but not from track 0 on
     pub whole: bool,
+    // hard disks only: 22h on a floppy
+    pub hard: bool,
     pub takes: Data,
     pub gives: Data,
 }

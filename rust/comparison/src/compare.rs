@@ -8,20 +8,20 @@ use crate::duplicates;
 use crate::engine::{apply, Call, Engine, Step};
 use crate::machine::{Machine, Reply};
 use crate::outcome::{Outcome, Setting};
-use crate::paper::{self, Geometry};
+use crate::paper::{self, Geometry, Kind};
 use crate::plain::{Answer, Controller};
 use crate::random::{self, Caller, Random, Scale};
-use crate::tally::{Table, Tally};
+use crate::tally::{Event, Starts, Table, Tally};
 
 /// Runs of either kind in [`agree`].
 const RUNS: u64 = 4;
 
-/// With four runs of either kind, 20 seconds at the most; usually the starts are done before.
-const TIME_PER_RUN: Duration = Duration::from_millis(2_500);
+/// With four runs of either kind, 80 seconds at the most; usually the starts are done long before.
+const TIME_PER_RUN: Duration = Duration::from_secs(10);
 
 /// Starts of a run; a wide one takes some hundred times as long as a small one.
-const LISTS: [(Scale, u64); 2] = [(Scale::Wide, 2), (Scale::Small, 1_000)];
-const DAMAGED: [(Scale, u64); 2] = [(Scale::Wide, 3), (Scale::Small, 3_000)];
+const LISTS: [(Scale, u64); 2] = [(Scale::Wide, 2), (Scale::Small, 1_500)];
+const DAMAGED: [(Scale, u64); 2] = [(Scale::Wide, 3), (Scale::Small, 5_000)];
 
 /// One list of so many is also compared by the whole outcome of every call.
 const LISTS_PER_WHOLE_COMPARISON: u64 = 4;
@@ -42,14 +42,8 @@ pub fn agree<E: Engine>(make: &impl Fn(&Controller) -> E, first_seed: u64) {
     let damaged =
         runs("damaged", &DAMAGED, first_seed, |scale, bounds| damaged(make, scale, bounds));
     println!("{}", Table { lists: &lists, damaged: &damaged });
-    for tally in [&lists, &damaged] {
-        assert!(tally.settled > 0, "no Initialize with the label's own bytes");
-        assert!(tally.pending > 0, "no Initialize with others");
-    }
-    let mut all = lists;
-    all += &damaged;
-    assert!(all.missing().is_empty(), "not reached: {:?}", all.missing());
-    assert!(all.looked_up > 0, "nothing was looked up");
+    let faults = [lists.faults(Starts::Fresh), damaged.faults(Starts::Damaged)].concat();
+    assert!(faults.is_empty(), "{faults:#?}");
 }
 
 /// Some runs of one kind, each from a seed far from the others'.
@@ -73,8 +67,8 @@ fn runs(
     sum
 }
 
-/// (1) Lists from fresh zero images, the first of the scale asked for: every answer and the data
-/// handed over are the machine's, and in the end the images hold what the machine holds.
+/// (1) Lists from fresh zero images: every answer and the data handed over are the machine's, and
+/// in the end the images hold what the machine holds.
 pub fn lists<E: Engine>(
     make: &impl Fn(&Controller) -> E,
     scale: Scale,
@@ -136,10 +130,10 @@ fn one_list<E: Engine>(
     tally: &mut Tally,
 ) -> Result<(), String> {
     let mut random = Random::new(seed);
-    let lengths = [scale, Scale::Small].map(|scale| random::list_length(&mut random, scale));
+    let lengths = random::list_lengths(&mut random, scale);
     let images = lengths.map(|length| vec![0; length]);
     // Fresh means after Reset, whatever the record was.
-    let engine = make(&random::record(&mut random, [None, None]));
+    let engine = make(&random::record(&mut random, [None; 4]));
     let calls = 30 + random.below(120);
     let mut caller = Caller::new(random, scale, lengths);
     let whole = seed.is_multiple_of(LISTS_PER_WHOLE_COMPARISON);
@@ -150,8 +144,9 @@ fn one_list<E: Engine>(
     for (index, step) in (0..).zip(steps) {
         list.do_step(&step, tally).map_err(|what| at_call(index, &step, what))?;
     }
-    for drive in 0..2 {
-        tally.looked_up += look_up(&list.machine, drive, &list.images[drive])?;
+    for drive in 0..4 {
+        let looked_up = look_up(&list.machine, drive, &list.images[drive])?;
+        tally.add(Kind::of(drive), Event::LookedUp, looked_up);
     }
     Ok(())
 }
@@ -160,7 +155,7 @@ fn one_list<E: Engine>(
 struct List<E> {
     engine: E,
     machine: Machine,
-    images: [Vec<u8>; 2],
+    images: [Vec<u8>; 4],
     /// Whether whole outcomes are compared.
     whole: bool,
 }
@@ -178,9 +173,19 @@ impl<E: Engine> List<E> {
             apply(&mut self.engine, &step.call, &mut area, &mut self.images)
         };
         same_reply(&reply, &answer, &step.area, &area)?;
-        tally.count(&step.call, &answer, &self.engine.record().drives);
+        count(tally, &step.call, &answer, &self.engine, &self.images);
         Ok(())
     }
+}
+
+fn count<E: Engine>(
+    tally: &mut Tally,
+    call: &Call,
+    answer: &Answer,
+    engine: &E,
+    images: &[Vec<u8>; 4],
+) {
+    tally.count(call, answer, &engine.record().drives, images.each_ref().map(Vec::len));
 }
 
 /// Lets an engine do a call and compares the whole outcome.
@@ -188,13 +193,15 @@ fn compared_call<E: Engine>(
     engine: &mut E,
     call: &Call,
     area: &mut Vec<u8>,
-    images: &mut [Vec<u8>; 2],
+    images: &mut [Vec<u8>; 4],
     tally: &mut Tally,
 ) -> Result<Answer, String> {
     let before = Setting { controller: engine.record(), area: take(area), images: take(images) };
     let found = Outcome::by(engine, before.clone(), call);
     Outcome::of(before, call).compare(&found)?;
-    tally.count_duplicates(duplicates::met(call, &found));
+    for (kind, way) in duplicates::met(call, &found) {
+        tally.add(kind, Event::Duplicate(way), 1);
+    }
     (*area, *images) = (found.setting.area, found.setting.images);
     Ok(found.answer)
 }
@@ -218,7 +225,8 @@ fn look_up(machine: &Machine, drive: usize, image: &[u8]) -> Result<u64, String>
     let Some(config) = machine.stored(drive) else {
         return Ok(0);
     };
-    let geometry = Geometry::read(&config, image.len()).ok_or("stored is not valid")?;
+    let geometry = Geometry::read(Kind::of(drive), &config, image.len());
+    let geometry = geometry.ok_or("stored is not valid")?;
     let mut looked_up = 0;
     for (address, bytes) in machine.held(drive) {
         let (track, sector) = geometry.split(address);
@@ -249,7 +257,7 @@ fn one_damaged<E: Engine>(
         let mut area = step.area.clone();
         let answer = compared_call(&mut engine, &step.call, &mut area, &mut images, tally)
             .map_err(|what| at_call(index, &step, what))?;
-        tally.count(&step.call, &answer, &engine.record().drives);
+        count(tally, &step.call, &answer, &engine, &images);
     }
     Ok(())
 }

@@ -3,23 +3,24 @@
 
 use crate::engine::Call;
 use crate::outcome::Outcome;
-use crate::paper::{self, Request};
+use crate::paper::{self, Kind, Request};
 
-/// The kinds of transfer: what it does, and on which track the slots are.
-pub const KINDS: [&str; 4] =
+/// The ways of a transfer: what it does, and on which track the slots are.
+pub const WAYS: [&str; 4] =
     ["Read, home track", "Read, partner", "Write, home track", "Write, partner"];
 
-/// The kinds that a call met among the sectors that it moved. A transfer changes no ID and no
-/// parameters, so its outcome tells what it found.
-pub fn met(call: &Call, outcome: &Outcome) -> [bool; 4] {
-    let mut met = [false; 4];
+/// The ways, by their place in [`WAYS`], in which a call met such sectors among those that it moved,
+/// each with the kind of drive. A transfer changes no ID and no parameters, so its outcome tells
+/// what it found.
+pub fn met(call: &Call, outcome: &Outcome) -> Vec<(Kind, usize)> {
     let Call::Execute { block, .. } = call else {
-        return met;
+        return Vec::new();
     };
     // Other commands, and blocks that are refused, move no sector.
     if outcome.answer.sectors == 0 {
-        return met;
+        return Vec::new();
     }
+    let mut met = [false; WAYS.len()];
     let request = Request::read(block);
     let geometry = outcome.setting.view(request.drive).geometry.expect("sectors were moved");
     let image = &outcome.setting.images[request.drive];
@@ -32,5 +33,5 @@ pub fn met(call: &Call, outcome: &Outcome) -> [bool; 4] {
             met[2 * usize::from(write) + usize::from(partner)] = true;
         }
     }
-    met
+    (0..met.len()).filter(|&way| met[way]).map(|way| (request.kind(), way)).collect()
 }

@@ -3,17 +3,17 @@
 use crate::plain::{Answer, Controller};
 
 /// An engine under comparison. It is made from a record by a factory closure
-/// `Fn(&Controller) -> impl Engine` and shows its record after each call.
+/// `Fn(&Controller) -> impl Engine` and shows its record after each call. It is lent an image for
+/// each drive.
 pub trait Engine {
-    fn reset(&mut self, image0: &[u8], image1: &[u8]) -> Answer;
+    fn reset(&mut self, images: [&[u8]; 4]) -> Answer;
 
     fn execute(
         &mut self,
         block: &[u8],
         given: &[u8],
         area: &mut [u8],
-        image0: &mut [u8],
-        image1: &mut [u8],
+        images: [&mut [u8]; 4],
     ) -> Answer;
 
     /// The controller record as it stands.
@@ -21,8 +21,8 @@ pub trait Engine {
 }
 
 impl Engine for Controller {
-    fn reset(&mut self, image0: &[u8], image1: &[u8]) -> Answer {
-        Controller::reset(self, image0, image1)
+    fn reset(&mut self, images: [&[u8]; 4]) -> Answer {
+        Controller::reset(self, images)
     }
 
     fn execute(
@@ -30,10 +30,9 @@ impl Engine for Controller {
         block: &[u8],
         given: &[u8],
         area: &mut [u8],
-        image0: &mut [u8],
-        image1: &mut [u8],
+        images: [&mut [u8]; 4],
     ) -> Answer {
-        Controller::execute(self, block, given, area, image0, image1)
+        Controller::execute(self, block, given, area, images)
     }
 
     fn record(&self) -> Controller {
@@ -55,16 +54,25 @@ pub struct Step {
     pub area: Vec<u8>,
 }
 
+/// Images as they are lent to a Reset.
+pub fn lent(images: &[Vec<u8>; 4]) -> [&[u8]; 4] {
+    images.each_ref().map(Vec::as_slice)
+}
+
+/// Images as they are lent to a command.
+pub fn lent_mut(images: &mut [Vec<u8>; 4]) -> [&mut [u8]; 4] {
+    images.each_mut().map(Vec::as_mut_slice)
+}
+
 /// Lets an engine do a call on the area and images lent.
 pub fn apply<E: Engine>(
     engine: &mut E,
     call: &Call,
     area: &mut [u8],
-    images: &mut [Vec<u8>; 2],
+    images: &mut [Vec<u8>; 4],
 ) -> Answer {
-    let [image0, image1] = images;
     match call {
-        Call::Reset => engine.reset(image0, image1),
-        Call::Execute { block, given } => engine.execute(block, given, area, image0, image1),
+        Call::Reset => engine.reset(lent(images)),
+        Call::Execute { block, given } => engine.execute(block, given, area, lent_mut(images)),
     }
 }

@@ -1,14 +1,14 @@
 //! Document 01's ten examples and its session of the program frames, for any engine. Each is
 //! seen through calls and images alone.
 
-use crate::engine::Engine;
+use crate::engine::{lent, lent_mut, Engine};
 use crate::paper::Config;
 use crate::plain::{Answer, Controller};
 
 /// An engine with its images.
 struct Bench<E> {
     engine: E,
-    images: [Vec<u8>; 2],
+    images: [Vec<u8>; 4],
 }
 
 /// Configuration bytes with the places that the examples leave open at 0.
@@ -24,21 +24,21 @@ fn image_length(cylinders: usize, heads: usize, size: u8) -> usize {
 
 impl<E: Engine> Bench<E> {
     /// Fresh, with zero images.
-    fn fresh(make: &impl Fn(&Controller) -> E, lengths: [usize; 2]) -> Bench<E> {
+    fn fresh(make: &impl Fn(&Controller) -> E, lengths: [usize; 4]) -> Bench<E> {
         let images = lengths.map(|length| vec![0; length]);
-        let mut engine = make(&Controller::fresh(&[], &[]));
-        engine.reset(&images[0], &images[1]);
+        let mut engine = make(&Controller::fresh([&[]; 4]));
+        engine.reset(lent(&images));
         Bench { engine, images }
     }
 
-    /// Two equal drives, initialized and formatted with this interleave.
+    /// Two equal hard disks, initialized and formatted with this interleave.
     fn formatted(
         make: &impl Fn(&Controller) -> E,
         (cylinders, heads, size): (u16, u8, u8),
         interleave: u8,
     ) -> Bench<E> {
         let length = image_length(cylinders.into(), heads.into(), size);
-        let mut bench = Bench::fresh(make, [length; 2]);
+        let mut bench = Bench::fresh(make, [length, length, 0, 0]);
         for drive in [0x00, 0x20] {
             let given = config(cylinders, heads, size);
             assert_eq!(bench.code([0x11, drive, 0, 0, 0, 0], &given), 0);
@@ -48,8 +48,7 @@ impl<E: Engine> Bench<E> {
     }
 
     fn execute(&mut self, block: &[u8], given: &[u8], area: &mut [u8]) -> Answer {
-        let [image0, image1] = &mut self.images;
-        self.engine.execute(block, given, area, image0, image1)
+        self.engine.execute(block, given, area, lent_mut(&mut self.images))
     }
 
     fn sense(&mut self, drive_bits: u8) -> [u8; 4] {
@@ -112,7 +111,7 @@ fn lengths<E: Engine>(make: &impl Fn(&Controller) -> E) {
     let examples = [((1, 1, 1), 8_464), ((1, 1, 2), 8_856), ((1024, 7, 2), 63_365_136)];
     for ((cylinders, heads, size), length) in examples {
         let given = config(cylinders, heads, size);
-        let mut bench = Bench::fresh(make, [length, 0]);
+        let mut bench = Bench::fresh(make, [length, 0, 0, 0]);
         assert_eq!(bench.code(initialize, &given), 0);
         // The limits of cylinders and heads hold whatever the length is.
         assert_eq!(bench.code(initialize, &config(1025, 1, size)), 0x22);
@@ -164,6 +163,9 @@ fn past_the_end<E: Engine>(make: &impl Fn(&Controller) -> E) {
     assert_eq!(bench.sense(0x20), [0xA1, 0x20, 0x00, 0x20]);
 }
 
+/// The lengths of the images that the program frames lends.
+const FRAMES: [usize; 4] = [25_360, 25_360, 0, 0];
+
 /// The document's session: lines and what they print.
 const SESSION: [(&str, &str); 7] = [
     ("000000000000", "000200"),
@@ -177,7 +179,7 @@ const SESSION: [(&str, &str); 7] = [
 
 /// The session of the program frames.
 pub fn frames_session<E: Engine>(make: &impl Fn(&Controller) -> E) {
-    let mut bench = Bench::fresh(make, [25_360; 2]);
+    let mut bench = Bench::fresh(make, FRAMES);
     for (line, printed) in SESSION {
         assert_eq!(bench.frame(line), printed, "line {line}");
     }
@@ -185,7 +187,7 @@ pub fn frames_session<E: Engine>(make: &impl Fn(&Controller) -> E) {
 
 /// Frames beyond the session, by the settled readings of the program.
 pub fn more_frames<E: Engine>(make: &impl Fn(&Controller) -> E) {
-    let mut bench = Bench::fresh(make, [25_360; 2]);
+    let mut bench = Bench::fresh(make, FRAMES);
     let (longest, too_long) = ("0F".repeat(1030), "0F".repeat(1031));
     let lines = [
         ("ff", "000000"),
@@ -198,6 +200,15 @@ pub fn more_frames<E: Engine>(make: &impl Fn(&Controller) -> E) {
         ("FF0000000000", "000200"),
         (&too_long, "FF"),
         ("030000000000", "00000020000000"),
+        // Drives 2 and 3 are absent floppies (request E3).
+        ("004000000000", "004200"),
+        ("034000000000", "00400004400000"),
+        ("054000000100", "004200"),
+        ("034000000000", "00400022400000"),
+        ("0E6000000100000000", "006200"),
+        ("036000000000", "00600022600000"),
+        ("046000000100", "006200"),
+        ("036000000000", "00600004600000"),
     ];
     for (line, printed) in lines {
         assert_eq!(bench.frame(line), printed, "line {line}");
@@ -211,7 +222,7 @@ impl<E: Engine> Bench<E> {
             return "FF".to_string();
         };
         if bytes == [0xFF] {
-            self.engine.reset(&self.images[0], &self.images[1]);
+            self.engine.reset(lent(&self.images));
             return "000000".to_string();
         }
         let (block, given) = bytes.split_at(bytes.len().min(6));

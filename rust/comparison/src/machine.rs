@@ -3,7 +3,7 @@
 use std::collections::BTreeMap;
 use std::rc::Rc;
 
-use crate::paper::{self, Condition, Config, Fault, Geometry, Request, Stop, View};
+use crate::paper::{self, Condition, Config, Fault, Geometry, Kind, Request, Stop, View};
 use crate::plain::Answer;
 
 /// An answer with the data handed over.
@@ -28,6 +28,7 @@ struct Track {
 }
 
 struct Drive {
+    kind: Kind,
     image_length: usize,
     stored: Option<Config>,
     in_force: Option<Config>,
@@ -39,12 +40,13 @@ struct Drive {
 pub struct Machine {
     buffer: [u8; 512],
     senses: [[u8; 4]; 4],
-    drives: [Drive; 2],
+    drives: [Drive; 4],
 }
 
 impl Drive {
-    fn fresh(image_length: usize) -> Drive {
+    fn fresh(kind: Kind, image_length: usize) -> Drive {
         Drive {
+            kind,
             image_length,
             stored: None,
             in_force: None,
@@ -57,18 +59,18 @@ impl Drive {
     fn view(&self) -> View {
         View {
             present: self.image_length >= paper::LABEL,
-            geometry: self.geometry(),
+            geometry: self.geometry(self.in_force),
             pending: self.pending,
         }
     }
 
-    fn geometry(&self) -> Option<Geometry> {
-        self.in_force.and_then(|config| Geometry::read(&config, self.image_length))
+    fn geometry(&self, config: Option<Config>) -> Option<Geometry> {
+        config.and_then(|config| Geometry::read(self.kind, &config, self.image_length))
     }
 
     /// The geometry of a command that was admitted with parameters.
     fn admitted(&self) -> Geometry {
-        self.geometry().expect("admitted with parameters")
+        self.geometry(self.in_force).expect("admitted with parameters")
     }
 
     fn condition(&self, track: u32) -> Condition {
@@ -117,8 +119,9 @@ impl Drive {
 }
 
 impl Machine {
-    pub fn fresh(image_lengths: [usize; 2]) -> Machine {
-        Machine { buffer: [0; 512], senses: [[0; 4]; 4], drives: image_lengths.map(Drive::fresh) }
+    pub fn fresh(image_lengths: [usize; 4]) -> Machine {
+        let drive = |drive| Drive::fresh(Kind::of(drive), image_lengths[drive]);
+        Machine { buffer: [0; 512], senses: [[0; 4]; 4], drives: std::array::from_fn(drive) }
     }
 
     pub fn reset(&mut self) -> Reply {
@@ -133,7 +136,8 @@ impl Machine {
 
     pub fn command(&mut self, block: &[u8], given: &[u8], area_length: usize) -> Reply {
         let mut reply = Reply { answer: Answer::default(), data: Vec::new() };
-        let admitted = paper::admit(block, given.len(), area_length, |drive| self.view(drive));
+        let view = |drive: usize| self.drives[drive].view();
+        let admitted = paper::admit(block, given.len(), area_length, view);
         let (drive, ended) = match admitted {
             Err(Stop::Number(number)) => {
                 reply.answer.number = number;
@@ -158,22 +162,12 @@ impl Machine {
     /// What the machine holds on sound and moved tracks under the stored configuration.
     pub fn held(&self, drive: usize) -> impl Iterator<Item = (u32, &[u8])> {
         let drive = &self.drives[drive];
-        let geometry = drive.stored.and_then(|config| Geometry::read(&config, drive.image_length));
-        let addresses = geometry.map_or(0, |geometry| geometry.addresses());
+        let addresses = drive.geometry(drive.stored).map_or(0, |geometry| geometry.addresses());
         drive.held.range(..addresses).map(|(&address, bytes)| (address, &**bytes))
     }
 
-    fn view(&self, drive: usize) -> View {
-        let absent = View { present: false, geometry: None, pending: false };
-        self.drives.get(drive).map_or(absent, Drive::view)
-    }
-
     fn fill(&self, request: &Request, geometry: &Geometry) -> Rc<[u8]> {
-        if request.from_buffer {
-            self.buffer[..geometry.data].into()
-        } else {
-            vec![0x6C; geometry.data].into()
-        }
+        request.fill(geometry, &self.buffer).into()
     }
 
     fn perform(&mut self, request: &Request, given: &[u8], reply: &mut Reply) -> Result<(), Fault> {
@@ -197,7 +191,7 @@ impl Machine {
     fn initialize(&mut self, request: &Request, given: &[u8]) -> Result<(), Fault> {
         let drive = &mut self.drives[request.drive];
         let config: Config = given[..10].try_into().expect("ten bytes");
-        if Geometry::read(&config, drive.image_length).is_none() {
+        if drive.geometry(Some(config)).is_none() {
             return Err(request.fault(0x22));
         }
         drive.in_force = Some(config);

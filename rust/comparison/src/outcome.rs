@@ -5,7 +5,7 @@
 use std::ops::Range;
 
 use crate::engine::{apply, Call, Engine};
-use crate::paper::{self, Condition, Fault, Geometry, Request, Stop, View};
+use crate::paper::{self, Condition, Fault, Geometry, Kind, Request, Stop, View};
 use crate::plain::{Answer, Controller, Drive};
 
 /// A slot's data, as a part of its image.
@@ -16,15 +16,16 @@ type Place = Range<usize>;
 pub struct Setting {
     pub controller: Controller,
     pub area: Vec<u8>,
-    pub images: [Vec<u8>; 2],
+    pub images: [Vec<u8>; 4],
 }
 
 impl Setting {
     /// A drive as the order of checks sees it.
     pub fn view(&self, drive: usize) -> View {
-        let length = self.images.get(drive).map_or(0, Vec::len);
+        let length = self.images[drive].len();
         let record = &self.controller.drives[drive];
-        let geometry = Geometry::read(&record.config, length).filter(|_| record.known);
+        let geometry = Geometry::read(Kind::of(drive), &record.config, length);
+        let geometry = geometry.filter(|_| record.known);
         View { present: length >= paper::LABEL, geometry, pending: record.pending }
     }
 }
@@ -65,7 +66,7 @@ impl Outcome {
             same(&format!("drive {drive} record"), &expected[drive], &found[drive])?;
         }
         same_bytes("area", &expected.area, &found.area)?;
-        for drive in 0..2 {
+        for drive in 0..4 {
             same_bytes(&format!("image {drive}"), &expected.images[drive], &found.images[drive])?;
         }
         Ok(())
@@ -74,7 +75,7 @@ impl Outcome {
     fn reset(&mut self) {
         self.setting.controller.buffer = [0; 512];
         for drive in 0..4 {
-            let label = self.setting.images.get(drive).and_then(|image| paper::label(image));
+            let label = paper::label(Kind::of(drive), &self.setting.images[drive]);
             self.setting.controller.drives[drive] = match label {
                 Some(config) => Drive { config, known: true, ..Drive::default() },
                 None => Drive::default(),
@@ -150,22 +151,17 @@ impl Outcome {
     fn initialize(&mut self, request: &Request, given: &[u8]) -> Result<(), Fault> {
         let config = given[..10].try_into().expect("ten bytes");
         let image = self.image(request);
-        if Geometry::read(&config, image.len()).is_none() {
+        if Geometry::read(request.kind(), &config, image.len()).is_none() {
             return Err(request.fault(0x22));
         }
-        let pending = paper::label(image) != Some(config);
+        let pending = paper::label(request.kind(), image) != Some(config);
         let record = &mut self.setting.controller.drives[request.drive];
         (record.config, record.known, record.pending) = (config, true, pending);
         Ok(())
     }
 
-    /// The fill that control bit 5 decides.
     fn fill(&self, request: &Request, geometry: &Geometry) -> Vec<u8> {
-        if request.from_buffer {
-            self.setting.controller.buffer[..geometry.data].to_vec()
-        } else {
-            vec![0x6C; geometry.data]
-        }
+        request.fill(geometry, &self.setting.controller.buffer)
     }
 
     /// Formats one track with the block's interleave.
@@ -224,7 +220,7 @@ impl Outcome {
         let condition = |track| self.condition(request, geometry, track);
         let (a, b) = paper::check_assign(request, geometry, given, condition)?;
         let fill = self.fill(request, geometry);
-        self.format(request, geometry, a, (2, b), &vec![0x6C; geometry.data]);
+        self.format(request, geometry, a, (2, b), &request.usual_fill(geometry));
         self.format(request, geometry, b, (3, a), &fill);
         Ok(())
     }

@@ -1,12 +1,76 @@
 //! Document 01's terms: parameters, slots, finding and the order of checks, put as the document
 //! puts them and without regard to speed. `plain` uses none of this.
 
-use std::ops::Range;
+use std::ops::{Range, RangeInclusive};
 
 pub type Config = [u8; 10];
 
 pub const LABEL: usize = 16;
 pub const ID: usize = 8;
+
+/// The kinds of drive (request E3).
+#[derive(Clone, Copy, Debug, PartialEq, Eq)]
+pub enum Kind {
+    HardDisk,
+    Floppy,
+}
+
+impl Kind {
+    pub const ALL: [Kind; 2] = [Kind::HardDisk, Kind::Floppy];
+
+    /// The kind of a drive, settled by its number alone.
+    pub fn of(drive: usize) -> Kind {
+        [Kind::HardDisk, Kind::HardDisk, Kind::Floppy, Kind::Floppy][drive]
+    }
+
+    pub fn rules(self) -> &'static Rules {
+        match self {
+            Kind::HardDisk => &HARD_DISK,
+            Kind::Floppy => &FLOPPY,
+        }
+    }
+}
+
+/// What is fixed by the kind of drive.
+pub struct Rules {
+    pub cylinders: RangeInclusive<u32>,
+    pub heads: RangeInclusive<u32>,
+    /// Configuration byte 3 in halves.
+    pub high_nibble: RangeInclusive<u8>,
+    pub low_nibble: RangeInclusive<u8>,
+    /// Configuration byte 4, with n and D.
+    pub sizes: &'static [(u8, u32, usize)],
+    pub byte_9: RangeInclusive<u8>,
+    pub fill: u8,
+    /// Whether control bit 5 lets a format fill from the buffer.
+    pub bit_5: bool,
+    /// Commands that give 22h, in the place of the control-bit check.
+    pub refused: &'static [u8],
+}
+
+static HARD_DISK: Rules = Rules {
+    cylinders: 1..=1_024,
+    heads: 1..=7,
+    high_nibble: 0..=4,
+    low_nibble: 0..=1,
+    sizes: &[(1, 32, 256), (2, 17, 512)],
+    byte_9: 0..=11,
+    fill: 0x6C,
+    bit_5: true,
+    refused: &[],
+};
+
+static FLOPPY: Rules = Rules {
+    cylinders: 1..=255,
+    heads: 1..=2,
+    high_nibble: 0..=15,
+    low_nibble: 1..=1,
+    sizes: &[(0, 16, 128)],
+    byte_9: 0..=255,
+    fill: 0xE5,
+    bit_5: false,
+    refused: &[0x05, 0x0E],
+};
 
 /// A valid configuration's numbers.
 #[derive(Clone, Copy, Debug, PartialEq, Eq)]
@@ -20,23 +84,20 @@ pub struct Geometry {
 }
 
 impl Geometry {
-    /// The configuration's numbers if it is valid with an image of this length.
-    pub fn read(config: &Config, image_length: usize) -> Option<Geometry> {
+    /// The configuration's numbers if it is valid on such a drive, with an image of this length.
+    pub fn read(kind: Kind, config: &Config, image_length: usize) -> Option<Geometry> {
+        let rules = kind.rules();
         let cylinders = u32::from(config[0]) * 256 + u32::from(config[1]);
         let heads = u32::from(config[2]);
-        let step = config[3] / 16;
-        let low_bits = config[3] % 16;
-        if !(1..=1024).contains(&cylinders) || !(1..=7).contains(&heads) {
+        if !rules.cylinders.contains(&cylinders) || !rules.heads.contains(&heads) {
             return None;
         }
-        if step > 4 || (low_bits != 0 && low_bits != 1) || config[9] > 11 {
+        let (high, low) = (config[3] / 16, config[3] % 16);
+        if !rules.high_nibble.contains(&high) || !rules.low_nibble.contains(&low) {
             return None;
         }
-        let (sectors, data) = match config[4] {
-            1 => (32, 256),
-            2 => (17, 512),
-            _ => return None,
-        };
+        let size = rules.sizes.iter().find(|(byte, _, _)| *byte == config[4]);
+        let &(_, sectors, data) = size.filter(|_| rules.byte_9.contains(&config[9]))?;
         let geometry = Geometry { cylinders, heads, sectors, data };
         if image_length < geometry.image_length() {
             return None;
@@ -94,14 +155,14 @@ impl Geometry {
     }
 }
 
-/// The configuration of a valid label.
-pub fn label(image: &[u8]) -> Option<Config> {
+/// The configuration of a label that is valid on such a drive.
+pub fn label(kind: Kind, image: &[u8]) -> Option<Config> {
     if image.len() < LABEL {
         return None;
     }
     let config: Config = image[..10].try_into().ok()?;
     let zeros = image[10..16] == [0; 6];
-    (zeros && Geometry::read(&config, image.len()).is_some()).then_some(config)
+    (zeros && Geometry::read(kind, &config, image.len()).is_some()).then_some(config)
 }
 
 /// The sector in each slot of a track of `n` with interleave `f`.
@@ -243,6 +304,25 @@ impl Request {
         }
     }
 
+    /// The kind of the drive named.
+    pub fn kind(&self) -> Kind {
+        Kind::of(self.drive)
+    }
+
+    /// The fill where control bit 5 does not count.
+    pub fn usual_fill(&self, geometry: &Geometry) -> Vec<u8> {
+        vec![self.kind().rules().fill; geometry.data]
+    }
+
+    /// The fill that control bit 5 decides.
+    pub fn fill(&self, geometry: &Geometry, buffer: &[u8; 512]) -> Vec<u8> {
+        if self.from_buffer && self.kind().rules().bit_5 {
+            buffer[..geometry.data].to_vec()
+        } else {
+            self.usual_fill(geometry)
+        }
+    }
+
     /// A fault with the block's address.
     pub fn fault(&self, code: u8) -> Fault {
         Fault { code, address: self.address }
@@ -315,7 +395,8 @@ fn first_code(block: &[u8], request: &Request, view: &View) -> Option<u8> {
     let by_address = matches!(opcode, 0x04..=0x0B | 0x0E);
     let bit_5_named = matches!(opcode, 0x04 | 0x06 | 0x0E);
     let undefined = block[5] & if bit_5_named { 0b0101_1111 } else { 0b0111_1111 };
-    if block[1] >= 0x80 || (by_address && undefined != 0) {
+    let refused = request.kind().rules().refused.contains(&opcode);
+    if block[1] >= 0x80 || (by_address && undefined != 0) || refused {
         return Some(0x22);
     }
     if matches!(opcode, 0x03 | 0x0F | 0x10) {

@@ -13,7 +13,6 @@ const MARK: u8 = 0xA1;
 const MOST_SECTORS: usize = 32;
 const NO_SLOT: u8 = 0xFF;
 const NO_SECTOR: u8 = 0xFF;
-const FORMAT_FILL: [u8; BUFFER] = [0x6C; BUFFER];
 
 mod opcode {
     pub const TEST_READY: u8 = 0x00;
@@ -38,6 +37,62 @@ mod flag {
     pub const MOVED: u8 = 2;
     pub const TAKEN: u8 = 3;
 }
+
+/// What sets one kind of drive apart.
+struct Kind {
+    most_cylinders: usize,
+    most_heads: usize,
+    /// Configuration byte 3: the highest high nibble; the low bits that are fixed, and to what.
+    most_step: u8,
+    fixed_mask: u8,
+    fixed_bits: u8,
+    /// What configuration byte 4 stands for.
+    sizes: &'static [Size],
+    /// The highest configuration byte 9.
+    most_last: u8,
+    /// As long as the longest sector.
+    fill: [u8; BUFFER],
+    /// Whether control bit 5 makes the buffer the fill.
+    fills_from_buffer: bool,
+    /// Whether the drive has Check Track and Assign Alternate.
+    has_alternates: bool,
+}
+
+/// A value of configuration byte 4, with the sectors of a track and the data bytes of a sector.
+struct Size {
+    code: u8,
+    sectors: usize,
+    data: usize,
+}
+
+static HARD_DISK: Kind = Kind {
+    most_cylinders: 1024,
+    most_heads: 7,
+    most_step: 4,
+    fixed_mask: 0x0E,
+    fixed_bits: 0x00,
+    sizes: &[Size { code: 1, sectors: 32, data: 256 }, Size { code: 2, sectors: 17, data: 512 }],
+    most_last: 11,
+    fill: [0x6C; BUFFER],
+    fills_from_buffer: true,
+    has_alternates: true,
+};
+
+static FLOPPY: Kind = Kind {
+    most_cylinders: 255,
+    most_heads: 2,
+    most_step: 15,
+    fixed_mask: 0x0F,
+    fixed_bits: 0x01,
+    sizes: &[Size { code: 0, sectors: 16, data: 128 }],
+    most_last: 255,
+    fill: [0xE5; BUFFER],
+    fills_from_buffer: false,
+    has_alternates: false,
+};
+
+/// The kind of each drive.
+static KINDS: [&Kind; 4] = [&HARD_DISK, &HARD_DISK, &FLOPPY, &FLOPPY];
 
 /// What a call returns.
 #[derive(Clone, Copy, Debug, Default, PartialEq, Eq)]
@@ -107,6 +162,10 @@ impl Block {
         }
     }
 
+    fn kind(&self) -> &'static Kind {
+        KINDS[self.drive]
+    }
+
     fn count(&self) -> usize {
         if self.fifth == 0 {
             256
@@ -125,6 +184,12 @@ impl Block {
             WRITE_BUFFER | READ_BUFFER | INITIALIZE => Some(0),
             _ => None,
         }
+    }
+
+    /// Whether the drive has no such command.
+    fn is_lacking(&self) -> bool {
+        use opcode::*;
+        !self.kind().has_alternates && matches!(self.opcode, CHECK_TRACK | ASSIGN_ALTERNATE)
     }
 
     fn has_interleave(&self) -> bool {
@@ -171,20 +236,16 @@ struct Geometry {
 
 impl Geometry {
     /// None where the configuration is not valid with an image of this length.
-    fn of(config: &[u8; CONFIG], image_length: usize) -> Option<Geometry> {
+    fn of(kind: &Kind, config: &[u8; CONFIG], image_length: usize) -> Option<Geometry> {
         let cylinders = usize::from(u16::from_be_bytes([config[0], config[1]]));
         let heads = usize::from(config[2]);
-        let (sectors, data) = match config[4] {
-            1 => (32, 256),
-            2 => (17, 512),
-            _ => return None,
-        };
+        let &Size { sectors, data, .. } = kind.sizes.iter().find(|size| size.code == config[4])?;
         let geometry = Geometry { tracks: cylinders * heads, heads, sectors, data };
-        let valid = (1..=1024).contains(&cylinders)
-            && (1..=7).contains(&heads)
-            && config[3] >> 4 <= 4
-            && config[3] & 0x0E == 0
-            && config[9] <= 11
+        let valid = (1..=kind.most_cylinders).contains(&cylinders)
+            && (1..=kind.most_heads).contains(&heads)
+            && config[3] >> 4 <= kind.most_step
+            && config[3] & kind.fixed_mask == kind.fixed_bits
+            && config[9] <= kind.most_last
             && image_length >= geometry.stretch(geometry.tracks).start;
         valid.then_some(geometry)
     }
@@ -390,38 +451,35 @@ fn take<const N: usize>(given: &[u8]) -> Result<&[u8; N], Stop> {
 }
 
 /// The configuration bytes of a valid label.
-fn valid_label(image: &[u8]) -> Option<&[u8; CONFIG]> {
+fn valid_label<'a>(kind: &Kind, image: &'a [u8]) -> Option<&'a [u8; CONFIG]> {
     let label: &[u8; LABEL] = image.first_chunk()?;
     let (config, rest) = label.split_first_chunk()?;
-    let valid = rest.iter().all(|&byte| byte == 0) && Geometry::of(config, image.len()).is_some();
-    valid.then_some(config)
+    let zeros = rest.iter().all(|&byte| byte == 0);
+    (zeros && Geometry::of(kind, config, image.len()).is_some()).then_some(config)
 }
 
 impl Drive {
-    fn from_label(image: &[u8]) -> Drive {
-        match valid_label(image) {
+    fn from_label(kind: &Kind, image: &[u8]) -> Drive {
+        match valid_label(kind, image) {
             Some(config) => Drive { config: *config, known: true, ..Drive::default() },
             None => Drive::default(),
         }
     }
 
     /// The parameters that count with an image of this length.
-    fn geometry(&self, image_length: usize) -> Option<Geometry> {
-        self.known.then(|| Geometry::of(&self.config, image_length))?
+    fn geometry(&self, kind: &Kind, image_length: usize) -> Option<Geometry> {
+        self.known.then(|| Geometry::of(kind, &self.config, image_length))?
     }
 }
 
 impl Controller {
-    pub fn fresh(image0: &[u8], image1: &[u8]) -> Controller {
-        let absent = Drive::default();
-        Controller {
-            buffer: [0; BUFFER],
-            drives: [Drive::from_label(image0), Drive::from_label(image1), absent, absent],
-        }
+    pub fn fresh(images: [&[u8]; 4]) -> Controller {
+        let drives = std::array::from_fn(|drive| Drive::from_label(KINDS[drive], images[drive]));
+        Controller { buffer: [0; BUFFER], drives }
     }
 
-    pub fn reset(&mut self, image0: &[u8], image1: &[u8]) -> Answer {
-        *self = Controller::fresh(image0, image1);
+    pub fn reset(&mut self, images: [&[u8]; 4]) -> Answer {
+        *self = Controller::fresh(images);
         Answer::default()
     }
 
@@ -430,18 +488,13 @@ impl Controller {
         block: &[u8],
         given: &[u8],
         area: &mut [u8],
-        image0: &mut [u8],
-        image1: &mut [u8],
+        images: [&mut [u8]; 4],
     ) -> Answer {
         let Ok(bytes) = <&[u8; 6]>::try_from(block) else {
             return Answer { number: 1, ..Answer::default() };
         };
         let block = Block::decode(bytes);
-        let image = match block.drive {
-            0 => image0,
-            1 => image1,
-            _ => &mut [],
-        };
+        let image = &mut *images[block.drive];
         let drive_bits = (block.drive as u8) << 5;
         let mut answer = Answer { status: drive_bits, ..Answer::default() };
         let (code, address) = match self.run(&block, given, area, image, &mut answer) {
@@ -469,7 +522,7 @@ impl Controller {
         answer: &mut Answer,
     ) -> Run {
         let undefined = block.undefined_control().ok_or(fault(0x20))?;
-        if block.unused_bit || block.control & undefined != 0 {
+        if block.unused_bit || block.control & undefined != 0 || block.is_lacking() {
             return Err(fault(0x22));
         }
         match block.opcode {
@@ -479,7 +532,7 @@ impl Controller {
                 Ok(())
             }
             opcode::READ_BUFFER => hand_over(&self.buffer, area, answer),
-            opcode::INITIALIZE => self.initialize(block.drive, given, image),
+            opcode::INITIALIZE => self.initialize(block, given, image),
             _ => self.run_on_drive(block, given, area, image, answer),
         }
     }
@@ -511,7 +564,7 @@ impl Controller {
         if image_length < LABEL {
             return Err(fault(0x04));
         }
-        let geometry = drive.geometry(image_length).ok_or(fault(0x0A))?;
+        let geometry = drive.geometry(block.kind(), image_length).ok_or(fault(0x0A))?;
         if block.has_interleave() && !(1..geometry.sectors).contains(&block.fifth) {
             return Err(fault(0x22));
         }
@@ -524,24 +577,25 @@ impl Controller {
         Ok(geometry)
     }
 
-    fn initialize(&mut self, drive: usize, given: &[u8], image: &[u8]) -> Run {
+    fn initialize(&mut self, block: &Block, given: &[u8], image: &[u8]) -> Run {
         if image.len() < LABEL {
             return Err(fault(0x04));
         }
         let config = take(given)?;
-        if Geometry::of(config, image.len()).is_none() {
+        if Geometry::of(block.kind(), config, image.len()).is_none() {
             return Err(fault(0x22));
         }
-        let pending = valid_label(image) != Some(config);
-        let drive = &mut self.drives[drive];
+        let pending = valid_label(block.kind(), image) != Some(config);
+        let drive = &mut self.drives[block.drive];
         (drive.config, drive.known, drive.pending) = (*config, true, pending);
         Ok(())
     }
 
-    /// The block's fill: the buffer with control bit 5, else 6Ch.
+    /// The block's fill: the buffer where control bit 5 asks for it, else the kind's.
     fn fill(&self, block: &Block, data: usize) -> &[u8] {
-        let from_buffer = block.control & 0x20 != 0;
-        &(if from_buffer { &self.buffer } else { &FORMAT_FILL })[..data]
+        let kind = block.kind();
+        let from_buffer = kind.fills_from_buffer && block.control & 0x20 != 0;
+        &(if from_buffer { &self.buffer } else { &kind.fill })[..data]
     }
 
     fn format_drive(&mut self, block: &Block, geometry: Geometry, image: &mut [u8]) -> Run {
@@ -568,7 +622,7 @@ impl Controller {
     fn format_track(&self, block: &Block, geometry: Geometry, image: &mut [u8], flag: u8) -> Run {
         let track = geometry.track(block.address);
         refuse_moved_or_taken(block, geometry, image, track)?;
-        // Bit 5 is refused in Format Bad Track, so its fill is 6Ch.
+        // Bit 5 is refused in Format Bad Track, so its fill is the kind's.
         let layout = layout(geometry.sectors, block.fifth);
         let fill = self.fill(block, geometry.data);
         Format { geometry, layout, fill }.track(image, track, flag, 0);
@@ -595,7 +649,7 @@ impl Controller {
             _ => {}
         }
         let layout = layout(geometry.sectors, block.fifth);
-        let mut format = Format { geometry, layout, fill: &FORMAT_FILL[..geometry.data] };
+        let mut format = Format { geometry, layout, fill: &block.kind().fill[..geometry.data] };
         format.track(image, from, flag::MOVED, to);
         format.fill = self.fill(block, geometry.data);
         format.track(image, to, flag::TAKEN, from);

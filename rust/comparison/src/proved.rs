@@ -8,20 +8,34 @@ pub struct Proved(pub lanthewg::Controller);
 
 impl Proved {
     pub fn from_record(record: &plain::Controller) -> Proved {
-        let drive = |d: &plain::Drive| lanthewg::Drive { sense: d.sense, config: d.config, known: d.known, pending: d.pending };
-        Proved(lanthewg::Controller { buffer: record.buffer, drives: std::array::from_fn(|i| drive(&record.drives[i])) })
+        let drive = |d: &plain::Drive| lanthewg::Drive {
+            sense: d.sense,
+            config: d.config,
+            known: d.known,
+            pending: d.pending,
+        };
+        Proved(lanthewg::Controller {
+            buffer: record.buffer,
+            drives: std::array::from_fn(|i| drive(&record.drives[i])),
+        })
     }
 }
 
 #[inline]
 fn answer(a: lanthewg::Answer) -> plain::Answer {
-    plain::Answer { number: a.number, status: a.status, message: a.message, sectors: a.sectors, bytes: a.bytes }
+    plain::Answer {
+        number: a.number,
+        status: a.status,
+        message: a.message,
+        sectors: a.sectors,
+        bytes: a.bytes,
+    }
 }
 
 impl Engine for Proved {
     #[inline]
-    fn reset(&mut self, image0: &[u8], image1: &[u8]) -> plain::Answer {
-        answer(self.0.reset(image0, image1))
+    fn reset(&mut self, images: [&[u8]; 4]) -> plain::Answer {
+        answer(self.0.reset(images))
     }
 
     #[inline]
@@ -30,14 +44,21 @@ impl Engine for Proved {
         block: &[u8],
         given: &[u8],
         area: &mut [u8],
-        image0: &mut [u8],
-        image1: &mut [u8],
+        images: [&mut [u8]; 4],
     ) -> plain::Answer {
-        answer(self.0.execute(block, given, area, image0, image1))
+        answer(self.0.execute(block, given, area, images))
     }
 
     fn record(&self) -> plain::Controller {
-        let drive = |d: &lanthewg::Drive| plain::Drive { sense: d.sense, config: d.config, known: d.known, pending: d.pending };
-        plain::Controller { buffer: self.0.buffer, drives: std::array::from_fn(|i| drive(&self.0.drives[i])) }
+        let drive = |d: &lanthewg::Drive| plain::Drive {
+            sense: d.sense,
+            config: d.config,
+            known: d.known,
+            pending: d.pending,
+        };
+        plain::Controller {
+            buffer: self.0.buffer,
+            drives: std::array::from_fn(|i| drive(&self.0.drives[i])),
+        }
     }
 }

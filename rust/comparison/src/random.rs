@@ -2,13 +2,12 @@
 //! and partly spoilt; nothing here looks at an engine's answers.
 
 use std::collections::BTreeMap;
+use std::ops::RangeInclusive;
 
 use crate::engine::{Call, Step};
-use crate::paper::{self, Config, Geometry, ID, LABEL};
+use crate::paper::{self, Config, Geometry, Kind, ID, LABEL};
 use crate::plain::{Controller, Drive};
-
-const OPCODES: [u8; 14] =
-    [0x00, 0x01, 0x03, 0x04, 0x05, 0x06, 0x07, 0x08, 0x0A, 0x0B, 0x0E, 0x0F, 0x10, 0x11];
+use crate::tally::OPCODES;
 
 /// Commands on a drive with its parameters in force, by weight.
 const ON_FORMATTED: [(u32, u8); 14] = [
@@ -73,6 +72,10 @@ impl Random {
         from[self.size_below(from.len())]
     }
 
+    fn within(&mut self, range: &RangeInclusive<u8>) -> u8 {
+        range.start() + self.below(u32::from(range.end() - range.start()) + 1) as u8
+    }
+
     /// One of the values, each as often as its weight says.
     pub fn weighted<T: Copy>(&mut self, from: &[(u32, T)]) -> T {
         let mut left = self.below(from.iter().map(|(weight, _)| weight).sum());
@@ -107,41 +110,52 @@ pub enum Scale {
     Wide,
 }
 
-/// A configuration of either size that is valid with an image long enough.
-fn any_config(random: &mut Random, scale: Scale) -> Config {
+impl Scale {
+    /// The scale of each drive where this one is asked for: one drive of each kind stays small.
+    fn of_drives(self) -> [Scale; 4] {
+        [self, Scale::Small, self, Scale::Small]
+    }
+}
+
+/// A configuration that is valid on such a drive with an image long enough.
+fn any_config(random: &mut Random, scale: Scale, kind: Kind) -> Config {
+    let rules = kind.rules();
+    let (most_cylinders, most_heads) = (*rules.cylinders.end(), *rules.heads.end());
     let (cylinders, heads) = match scale {
         Scale::Small => (
             random.weighted(&[(4, 1), (8, 2), (8, 3), (3, 4), (1, 5)]),
-            random.weighted(&[(5, 1), (8, 2), (6, 3), (2, 4), (1, 7)]),
+            random.weighted(&[(5, 1), (8, 2), (6, 3), (2, 4), (1, 7)]).min(most_heads),
         ),
-        Scale::Wide => (293 + random.below(20), 7),
+        Scale::Wide => (most_cylinders.min(312) - random.below(20), most_heads),
     };
     let [high, low] = (cylinders as u16).to_be_bytes();
-    let mut config = [high, low, heads, 0, 1 + random.below(2) as u8, 0, 0, 0, 0, 0];
+    let (size, _, _) = random.pick(rules.sizes);
+    let mut config = [high, low, heads as u8, 0, size, 0, 0, 0, 0, 0];
     random.fill(&mut config[5..9]);
-    config[3] = 16 * random.below(5) as u8 + random.below(2) as u8;
-    config[9] = random.below(12) as u8;
+    config[3] = 16 * random.within(&rules.high_nibble) + random.within(&rules.low_nibble);
+    config[9] = random.within(&rules.byte_9);
     config
 }
 
 /// A configuration that is valid with this image length, if one is soon found.
-fn fitting_config(random: &mut Random, scale: Scale, length: usize) -> Option<Config> {
-    let mut tries = (0..20).map(|_| any_config(random, scale));
-    tries.find(|config| Geometry::read(config, length).is_some())
+fn fitting_config(random: &mut Random, scale: Scale, kind: Kind, length: usize) -> Option<Config> {
+    let mut tries = (0..20).map(|_| any_config(random, scale, kind));
+    tries.find(|config| Geometry::read(kind, config, length).is_some())
 }
 
-/// Makes a configuration invalid in one place.
+/// Changes a configuration in one place, mostly to a value that one kind of drive or both refuse.
 fn spoil_config(random: &mut Random, config: &mut Config) {
-    let low_bits = 2 + random.below(14) as u8;
+    let nibbles = random.byte();
     let places = [
         (1, 0),
-        (0, 0x04 + random.below(8) as u8),
+        (0, 0x01 + random.below(12) as u8),
         (2, 0),
+        (2, 3),
         (2, 8),
-        (3, 0x50),
-        (3, low_bits),
+        (3, nibbles & 0xF0),
+        (3, nibbles & 0x0F),
         (4, 0),
-        (4, 3),
+        (4, 1 + random.below(3) as u8),
         (9, 12),
         (9, 0xFF),
     ];
@@ -149,18 +163,24 @@ fn spoil_config(random: &mut Random, config: &mut Config) {
     config[at] = value;
 }
 
-fn any_geometry(random: &mut Random, scale: Scale) -> (Config, Geometry) {
-    let config = any_config(random, scale);
-    (config, Geometry::read(&config, usize::MAX).expect("valid with a long image"))
+fn any_geometry(random: &mut Random, scale: Scale, kind: Kind) -> (Config, Geometry) {
+    let config = any_config(random, scale, kind);
+    (config, Geometry::read(kind, &config, usize::MAX).expect("valid with a long image"))
 }
 
-/// The length of a zero image for a list: mostly room for a drive of this scale.
-pub fn list_length(random: &mut Random, scale: Scale) -> usize {
+/// The lengths of zero images for a list.
+pub fn list_lengths(random: &mut Random, scale: Scale) -> [usize; 4] {
+    let scales = scale.of_drives();
+    std::array::from_fn(|drive| list_length(random, scales[drive], Kind::of(drive)))
+}
+
+/// The length of an image: mostly room for a drive of this scale.
+fn list_length(random: &mut Random, scale: Scale, kind: Kind) -> usize {
     match random.below(100) {
         0..=6 => random.size_below(LABEL),
         7..=9 => LABEL + random.size_below(200),
         draw => {
-            let (_, geometry) = any_geometry(random, scale);
+            let (_, geometry) = any_geometry(random, scale, kind);
             let exact = geometry.image_length();
             match draw {
                 10..=15 => exact - 1,
@@ -185,15 +205,17 @@ struct Belief {
 /// Makes calls, one after the other.
 pub struct Caller {
     pub random: Random,
-    scale: Scale,
-    lengths: [usize; 2],
-    beliefs: [Belief; 2],
+    scales: [Scale; 4],
+    lengths: [usize; 4],
+    /// How often each drive is named.
+    weights: [u32; 4],
+    beliefs: [Belief; 4],
 }
 
 /// The parts of a command before they become bytes.
 struct Draft {
     opcode: u8,
-    drive: u8,
+    drive: usize,
     address: u32,
     fifth: u8,
     control: u8,
@@ -203,8 +225,18 @@ struct Draft {
 
 impl Caller {
     /// For a list on zero images of these lengths.
-    pub fn new(random: Random, scale: Scale, lengths: [usize; 2]) -> Caller {
-        Caller { random, scale, lengths, beliefs: Default::default() }
+    pub fn new(random: Random, scale: Scale, lengths: [usize; 4]) -> Caller {
+        Caller::believing(random, scale, lengths, Default::default())
+    }
+
+    fn believing(
+        mut random: Random,
+        scale: Scale,
+        lengths: [usize; 4],
+        beliefs: [Belief; 4],
+    ) -> Caller {
+        let weights = lengths.map(|length| weight(&mut random, length));
+        Caller { random, scales: scale.of_drives(), lengths, weights, beliefs }
     }
 
     /// The next call.
@@ -223,11 +255,9 @@ impl Caller {
         step
     }
 
-    /// A drive, seldom one that is absent.
-    fn drive(&mut self) -> u8 {
-        let weight = |length| if length < LABEL { 4 } else { 46 };
-        let [first, second] = self.lengths.map(weight);
-        self.random.weighted(&[(first, 0), (second, 1), (3, 2), (3, 3)])
+    fn drive(&mut self) -> usize {
+        let [first, second, third, fourth] = self.weights;
+        self.random.weighted(&[(first, 0), (second, 1), (third, 2), (fourth, 3)])
     }
 
     fn reset(&mut self) -> Step {
@@ -238,29 +268,34 @@ impl Caller {
         Step { call: Call::Reset, area: Vec::new() }
     }
 
-    fn believed(&self, drive: u8) -> Option<Geometry> {
-        let config = self.beliefs.get(usize::from(drive))?.in_force?;
-        Geometry::read(&config, self.lengths[usize::from(drive)])
+    fn believed(&self, drive: usize) -> Option<Geometry> {
+        let config = self.beliefs[drive].in_force?;
+        Geometry::read(Kind::of(drive), &config, self.lengths[drive])
     }
 
-    fn opcode(&mut self, drive: u8) -> u8 {
-        if self.random.chance(5) {
+    fn opcode(&mut self, drive: usize) -> u8 {
+        if self.lengths[drive] < LABEL || self.random.chance(5) {
             return self.random.pick(&OPCODES);
         }
-        match self.beliefs.get(usize::from(drive)) {
-            Some(Belief { in_force: Some(_), pending: false, .. }) => {
-                self.random.weighted(&ON_FORMATTED)
-            }
-            Some(Belief { in_force: Some(_), .. }) => self.random.weighted(&ON_PENDING),
-            Some(_) => self.random.weighted(&ON_UNKNOWN),
-            None => self.random.pick(&OPCODES),
+        match self.beliefs[drive] {
+            Belief { in_force: None, .. } => self.random.weighted(&ON_UNKNOWN),
+            Belief { pending: true, .. } => self.random.weighted(&ON_PENDING),
+            _ => self.opcode_on_formatted(Kind::of(drive)),
         }
     }
 
-    fn sensible(&mut self, drive: u8) -> Draft {
+    /// A command that this kind of drive refuses is drawn anew, mostly.
+    fn opcode_on_formatted(&mut self, kind: Kind) -> u8 {
+        let opcode = self.random.weighted(&ON_FORMATTED);
+        if kind.rules().refused.contains(&opcode) && self.random.chance(75) {
+            return self.opcode_on_formatted(kind);
+        }
+        opcode
+    }
+
+    fn sensible(&mut self, drive: usize) -> Draft {
         let opcode = self.opcode(drive);
-        let other = Geometry { cylinders: 1, heads: 1, sectors: 32, data: 256 };
-        let geometry = self.believed(drive).unwrap_or(other);
+        let geometry = self.believed(drive).unwrap_or_else(|| one_track(Kind::of(drive)));
         let mut draft = self.empty_draft(opcode, drive);
         match opcode {
             0x03 => draft.handed_over = 4,
@@ -286,7 +321,7 @@ impl Caller {
     }
 
     /// A command with the fields that it does not use at 0 or at random, and good control bits.
-    fn empty_draft(&mut self, opcode: u8, drive: u8) -> Draft {
+    fn empty_draft(&mut self, opcode: u8, drive: usize) -> Draft {
         let noise = if self.random.chance(30) { self.random.number() as u32 } else { 0 };
         let control = match opcode {
             0x04 | 0x06 | 0x0E => self.random.weighted(&[(5, 0), (4, 0x20), (1, 0xA0), (1, 0x80)]),
@@ -305,8 +340,8 @@ impl Caller {
     }
 
     /// A track, often one with a past.
-    fn track(&mut self, drive: u8, geometry: &Geometry) -> u32 {
-        let marked = self.beliefs.get(usize::from(drive)).map_or(&[][..], |b| &b.marked[..]);
+    fn track(&mut self, drive: usize, geometry: &Geometry) -> u32 {
+        let marked = &self.beliefs[drive].marked;
         if !marked.is_empty() && self.random.chance(50) {
             let marked = marked[self.random.size_below(marked.len())];
             return marked.min(geometry.tracks() - 1);
@@ -315,7 +350,7 @@ impl Caller {
     }
 
     /// An address, nearly always on the drive.
-    fn address(&mut self, drive: u8, geometry: &Geometry) -> u32 {
+    fn address(&mut self, drive: usize, geometry: &Geometry) -> u32 {
         match self.random.below(100) {
             0..=89 => {
                 let sector = self.random.below(geometry.sectors);
@@ -340,7 +375,7 @@ impl Caller {
     }
 
     fn format_drive(&mut self, draft: &mut Draft, geometry: &Geometry) {
-        let pending = self.beliefs.get(usize::from(draft.drive)).is_some_and(|b| b.pending);
+        let pending = self.beliefs[draft.drive].pending;
         draft.fifth = self.interleave(geometry);
         draft.address = if self.random.chance(if pending { 90 } else { 25 }) {
             self.random.below(geometry.sectors)
@@ -348,31 +383,27 @@ impl Caller {
             self.address(draft.drive, geometry)
         };
         let (start, _) = geometry.split(draft.address);
-        if let Some(belief) = self.beliefs.get_mut(usize::from(draft.drive)) {
-            belief.interleaves.extend((start..geometry.tracks()).map(|t| (t, draft.fifth)));
-            if start == 0 {
-                belief.marked.clear();
-                belief.stored = belief.in_force;
-                belief.pending = false;
-            }
+        let belief = &mut self.beliefs[draft.drive];
+        belief.interleaves.extend((start..geometry.tracks()).map(|t| (t, draft.fifth)));
+        if start == 0 {
+            belief.marked.clear();
+            belief.stored = belief.in_force;
+            belief.pending = false;
         }
     }
 
     fn note(&mut self, draft: &Draft, track: u32, marked: bool) {
-        if let Some(belief) = self.beliefs.get_mut(usize::from(draft.drive)) {
-            belief.interleaves.insert(track, draft.fifth);
-            if marked {
-                belief.marked.push(track);
-            }
+        let belief = &mut self.beliefs[draft.drive];
+        belief.interleaves.insert(track, draft.fifth);
+        if marked {
+            belief.marked.push(track);
         }
     }
 
     fn check_track(&mut self, draft: &mut Draft, geometry: &Geometry) {
         draft.address = self.address(draft.drive, geometry);
         let (track, _) = geometry.split(draft.address);
-        let belief = self.beliefs.get(usize::from(draft.drive));
-        let known = belief.and_then(|belief| belief.interleaves.get(&track).copied());
-        draft.fifth = match known {
+        draft.fifth = match self.beliefs[draft.drive].interleaves.get(&track).copied() {
             Some(interleave) if self.random.chance(70) => interleave,
             _ => self.interleave(geometry),
         };
@@ -420,30 +451,39 @@ impl Caller {
     }
 
     fn initialize(&mut self, draft: &mut Draft) {
-        let drive = usize::from(draft.drive);
-        let length = self.lengths.get(drive).copied().unwrap_or(0);
-        let stored = self.beliefs.get(drive).and_then(|belief| belief.stored);
-        let mut config = match (stored, fitting_config(&mut self.random, self.scale, length)) {
-            (Some(stored), _) if self.random.chance(50) => self.nearly(stored),
-            (_, Some(fitting)) => fitting,
-            (_, None) => any_config(&mut self.random, Scale::Small),
+        let drive = draft.drive;
+        let mut config = match self.beliefs[drive].stored {
+            Some(stored) if self.random.chance(50) => self.nearly(stored),
+            _ => self.new_config(drive),
         };
         if self.random.chance(12) {
             spoil_config(&mut self.random, &mut config);
-        } else if let Some(belief) = self.beliefs.get_mut(drive) {
-            if Geometry::read(&config, length).is_some() {
-                belief.in_force = Some(config);
-                belief.pending = belief.stored != Some(config);
-            }
+        }
+        if Geometry::read(Kind::of(drive), &config, self.lengths[drive]).is_some() {
+            let belief = &mut self.beliefs[drive];
+            belief.in_force = Some(config);
+            belief.pending = belief.stored != Some(config);
         }
         draft.given = config.to_vec();
     }
 
-    /// A stored configuration, sometimes with one bit changed where it stays valid.
+    /// A configuration that fits the drive's image, seldom one of the other kind of drive.
+    fn new_config(&mut self, drive: usize) -> Config {
+        let kind =
+            if self.random.chance(8) { self.random.pick(&Kind::ALL) } else { Kind::of(drive) };
+        fitting_config(&mut self.random, self.scales[drive], kind, self.lengths[drive])
+            .unwrap_or_else(|| any_config(&mut self.random, Scale::Small, kind))
+    }
+
+    /// A stored configuration, sometimes with one bit changed where it mostly stays valid.
     fn nearly(&mut self, mut config: Config) -> Config {
         if self.random.chance(30) {
             let at = self.random.pick(&[3, 5, 6, 7, 8, 9]);
-            config[at] ^= if at == 3 || at == 9 { 1 } else { 1 << self.random.below(8) };
+            config[at] ^= match at {
+                3 => self.random.pick(&[0x01, 0x10]),
+                9 => 1,
+                _ => 1 << self.random.below(8),
+            };
         }
         config
     }
@@ -451,7 +491,7 @@ impl Caller {
     /// The call with lengths of given data and area that are mostly enough.
     fn step_of(&mut self, draft: Draft) -> Step {
         let [_, high, middle, low] = draft.address.to_be_bytes();
-        let second = draft.drive << 5 | high & 0x1F;
+        let second = (draft.drive as u8) << 5 | high & 0x1F;
         let block = vec![draft.opcode, second, middle, low, draft.fifth, draft.control];
         let mut given = draft.given;
         let length = self.about(given.len());
@@ -499,8 +539,8 @@ impl Caller {
     }
 
     /// Lends other bytes or another length than the last call left.
-    pub fn disturb(&mut self, images: &mut [Vec<u8>; 2]) {
-        let drive = self.random.size_below(2);
+    pub fn disturb(&mut self, images: &mut [Vec<u8>; 4]) {
+        let drive = self.random.size_below(4);
         let image = &mut images[drive];
         match self.random.below(10) {
             0 => image.truncate(image.len().saturating_sub(1)),
@@ -508,7 +548,7 @@ impl Caller {
             2 => image.extend_from_slice(&[0xA1; 3]),
             3 => image.resize(self.lengths[drive], 0),
             _ => {
-                let geometry = self.believed(drive as u8);
+                let geometry = self.believed(drive);
                 let fits = |geometry: &Geometry| image.len() >= geometry.image_length();
                 if let Some(geometry) = geometry.filter(fits) {
                     damage(&mut self.random, image, &geometry);
@@ -526,35 +566,53 @@ fn sectors(count: u8) -> usize {
     }
 }
 
-/// A damaged start: any record, any images, the first of the scale asked for, and a caller that
-/// knows what they were made from.
+/// The weight of a drive in a list: absent ones are seldom named, of the others one or two often
+/// get most of the calls.
+fn weight(random: &mut Random, length: usize) -> u32 {
+    if length < LABEL {
+        10
+    } else {
+        random.pick(&[8, 40, 40, 120])
+    }
+}
+
+/// The geometry of the smallest drive of a kind.
+fn one_track(kind: Kind) -> Geometry {
+    let (_, sectors, data) = kind.rules().sizes[0];
+    Geometry { cylinders: 1, heads: 1, sectors, data }
+}
+
+/// A damaged start: any record, any images, and a caller that knows what they were made from.
 pub struct Damaged {
     pub controller: Controller,
-    pub images: [Vec<u8>; 2],
+    pub images: [Vec<u8>; 4],
     pub caller: Caller,
 }
 
 pub fn damaged(mut random: Random, scale: Scale) -> Damaged {
-    let mut beliefs: [Belief; 2] = Default::default();
-    let images = [(0, scale), (1, Scale::Small)]
-        .map(|(drive, scale)| damaged_image(&mut random, scale, &mut beliefs[drive]));
-    let controller = record(&mut random, [0, 1].map(|drive| beliefs[drive].in_force));
-    let lengths = [0, 1].map(|drive| images[drive].len());
-    Damaged { controller, images, caller: Caller { random, scale, lengths, beliefs } }
+    let mut beliefs: [Belief; 4] = Default::default();
+    let scales = scale.of_drives();
+    let images = std::array::from_fn(|drive| {
+        damaged_image(&mut random, scales[drive], Kind::of(drive), &mut beliefs[drive])
+    });
+    let controller = record(&mut random, beliefs.each_ref().map(|belief| belief.in_force));
+    let lengths = images.each_ref().map(Vec::len);
+    Damaged { controller, images, caller: Caller::believing(random, scale, lengths, beliefs) }
 }
 
 /// An arbitrary record; the drives mostly know the configuration given.
-pub fn record(random: &mut Random, configs: [Option<Config>; 2]) -> Controller {
+pub fn record(random: &mut Random, configs: [Option<Config>; 4]) -> Controller {
     let mut buffer = [0; 512];
     random.fill(&mut buffer);
-    let drives = [configs[0], configs[1], None, None].map(|config| drive_record(random, config));
+    let drives = configs.map(|config| drive_record(random, config));
     Controller { buffer, drives }
 }
 
 fn drive_record(random: &mut Random, config: Option<Config>) -> Drive {
     let mut sense = [0; 4];
     random.fill(&mut sense);
-    let mut any = any_config(random, Scale::Small);
+    let kind = random.pick(&Kind::ALL);
+    let mut any = any_config(random, Scale::Small, kind);
     if random.chance(30) {
         random.fill(&mut any);
     }
@@ -562,9 +620,11 @@ fn drive_record(random: &mut Random, config: Option<Config>) -> Drive {
     Drive { sense, config, known: random.chance(96), pending: random.chance(8) }
 }
 
-/// An image of any length and bytes; mostly formatted by somebody, then damaged.
-fn damaged_image(random: &mut Random, scale: Scale, belief: &mut Belief) -> Vec<u8> {
-    let (config, geometry) = any_geometry(random, scale);
+/// An image of any length and bytes; mostly formatted by somebody, then damaged. Seldom it is one of
+/// the other kind of drive.
+fn damaged_image(random: &mut Random, scale: Scale, kind: Kind, belief: &mut Belief) -> Vec<u8> {
+    let kind = if random.chance(6) { random.pick(&Kind::ALL) } else { kind };
+    let (config, geometry) = any_geometry(random, scale, kind);
     belief.in_force = Some(config);
     belief.stored = Some(config);
     let mut image = random.bytes(geometry.image_length());
@@ -585,7 +645,8 @@ fn damaged_image(random: &mut Random, scale: Scale, belief: &mut Belief) -> Vec<
     match random.below(40) {
         0 => image.truncate(image.len() - 1),
         1 => image.truncate(random.size_below(100)),
-        2..=12 => image.extend(random.bytes(30)),
+        2 => image.truncate(random.size_below(LABEL)),
+        3..=13 => image.extend(random.bytes(30)),
         _ => {}
     }
     image

@@ -1,10 +1,12 @@
-//! What a comparison reached.
+//! What a comparison reached, on hard disks and on floppies.
 
+use std::collections::BTreeMap;
 use std::fmt;
 use std::ops::AddAssign;
 
-use crate::duplicates::KINDS;
+use crate::duplicates;
 use crate::engine::Call;
+use crate::paper::{Geometry, Kind, Request, LABEL};
 use crate::plain::{Answer, Drive};
 
 /// The sense codes of document 01.
@@ -12,40 +14,108 @@ pub const CODES: [u8; 16] = [
     0x04, 0x0A, 0x10, 0x12, 0x14, 0x15, 0x16, 0x19, 0x1A, 0x1C, 0x1D, 0x1E, 0x1F, 0x20, 0x21, 0x22,
 ];
 
+/// The commands of document 01.
+pub const OPCODES: [u8; 14] =
+    [0x00, 0x01, 0x03, 0x04, 0x05, 0x06, 0x07, 0x08, 0x0A, 0x0B, 0x0E, 0x0F, 0x10, 0x11];
+
+/// What a call that names a drive can come to. Commands are given by their opcodes.
+#[derive(Clone, Copy, Debug, PartialEq, Eq, PartialOrd, Ord)]
+pub enum Event {
+    Code(u8),
+    /// Numbers 2 and 3.
+    Number(u8),
+    /// A command with number 0 and no code.
+    Good(u8),
+    /// An Initialize that ended well, by whether it left the drive pending.
+    Settled,
+    Pending,
+    /// An Initialize that was refused with bytes that the other kind of drive would have taken.
+    OtherKind,
+    /// A format that ended well with control bit 5.
+    BitFive(u8),
+    /// 22h of a command whose control bits and interleave are in order.
+    Refused {
+        opcode: u8,
+        present: bool,
+    },
+    /// A transfer, compared whole, of a sector that two or more slots hold, by its way.
+    Duplicate(usize),
+    /// A sector whose bytes were looked up in the image at the end of a list.
+    LookedUp,
+}
+
+impl Event {
+    fn all() -> Vec<Event> {
+        let refused = |opcode| [true, false].map(|present| Event::Refused { opcode, present });
+        [
+            &CODES.map(Event::Code)[..],
+            &[2, 3].map(Event::Number),
+            &OPCODES.map(Event::Good),
+            &[Event::Settled, Event::Pending, Event::OtherKind],
+            &[0x04, 0x06].map(Event::BitFive),
+            &[0x05, 0x0E].map(refused).concat(),
+            &[0, 1, 2, 3].map(Event::Duplicate),
+            &[Event::LookedUp],
+        ]
+        .concat()
+    }
+
+    /// Whether a call on such a drive can come to it: then the comparison has to reach it, else no
+    /// engine may show it.
+    fn is_possible(self, starts: Starts, kind: Kind) -> bool {
+        let (floppy, fresh) = (kind == Kind::Floppy, starts == Starts::Fresh);
+        match self {
+            // Check Track and Assign Alternate, and codes that only they give.
+            Event::Good(0x05 | 0x0E) | Event::Code(0x1A | 0x1F) => !floppy,
+            // What no format leaves.
+            Event::Code(0x10 | 0x12 | 0x14 | 0x15 | 0x1E) => !fresh,
+            // Pairs, which a floppy has from damage alone.
+            Event::Code(0x1C | 0x1D) => !(fresh && floppy),
+            // On hard disks Assign Alternate has a 22h of its own.
+            Event::Refused { opcode, present } => floppy || (opcode == 0x0E && present),
+            Event::Duplicate(_) => !fresh,
+            Event::LookedUp => fresh,
+            _ => true,
+        }
+    }
+}
+
+impl fmt::Display for Event {
+    fn fmt(&self, f: &mut fmt::Formatter) -> fmt::Result {
+        let name = match self {
+            Event::Code(code) => format!("code {code:02X}h"),
+            Event::Number(number) => format!("number {number}"),
+            Event::Good(opcode) => format!("{opcode:02X}h good"),
+            Event::Settled => "11h settled".to_string(),
+            Event::Pending => "11h pending".to_string(),
+            Event::OtherKind => "11h, the other kind's bytes".to_string(),
+            Event::BitFive(opcode) => format!("{opcode:02X}h good with bit 5"),
+            Event::Refused { opcode, present: true } => format!("{opcode:02X}h is 22h, present"),
+            Event::Refused { opcode, present: false } => format!("{opcode:02X}h is 22h, absent"),
+            Event::Duplicate(way) => format!("duplicate: {}", duplicates::WAYS[*way]),
+            Event::LookedUp => "looked up".to_string(),
+        };
+        f.pad(&name)
+    }
+}
+
+/// Where the calls of a comparison start from.
+#[derive(Clone, Copy, Debug, PartialEq, Eq)]
+pub enum Starts {
+    /// Fresh zero images.
+    Fresh,
+    Damaged,
+}
+
 /// How often each thing was reached.
-#[derive(Clone)]
+#[derive(Clone, Default)]
 pub struct Tally {
     pub starts: u64,
     pub calls: u64,
     pub resets: u64,
-    /// Calls that ended with number 0 and no code.
-    pub good: u64,
-    /// Sectors whose bytes were looked up in the images at the end of lists.
-    pub looked_up: u64,
-    /// Initializes that ended well, by whether they left the drive pending.
-    pub settled: u64,
-    pub pending: u64,
-    pub numbers: [u64; 4],
-    pub codes: [u64; 128],
-    /// Transfers, compared whole, of a sector that two or more slots hold.
-    pub duplicates: [u64; KINDS.len()],
-}
-
-impl Default for Tally {
-    fn default() -> Tally {
-        Tally {
-            starts: 0,
-            calls: 0,
-            resets: 0,
-            good: 0,
-            looked_up: 0,
-            settled: 0,
-            pending: 0,
-            numbers: [0; 4],
-            codes: [0; 128],
-            duplicates: [0; KINDS.len()],
-        }
-    }
+    /// Number 1: the block names no drive.
+    pub no_block: u64,
+    events: [BTreeMap<Event, u64>; Kind::ALL.len()],
 }
 
 impl AddAssign<&Tally> for Tally {
@@ -53,76 +123,112 @@ impl AddAssign<&Tally> for Tally {
         self.starts += other.starts;
         self.calls += other.calls;
         self.resets += other.resets;
-        self.good += other.good;
-        self.looked_up += other.looked_up;
-        self.settled += other.settled;
-        self.pending += other.pending;
-        add_each(&mut self.numbers, &other.numbers);
-        add_each(&mut self.codes, &other.codes);
-        add_each(&mut self.duplicates, &other.duplicates);
-    }
-}
-
-fn add_each(sums: &mut [u64], more: &[u64]) {
-    for (sum, more) in sums.iter_mut().zip(more) {
-        *sum += more;
+        self.no_block += other.no_block;
+        for kind in Kind::ALL {
+            for (&event, &count) in &other.events[kind as usize] {
+                self.add(kind, event, count);
+            }
+        }
     }
 }
 
 impl Tally {
-    /// Counts a call by its answer and the drives that it left.
-    pub fn count(&mut self, call: &Call, answer: &Answer, drives: &[Drive; 4]) {
+    pub fn add(&mut self, kind: Kind, event: Event, count: u64) {
+        *self.events[kind as usize].entry(event).or_default() += count;
+    }
+
+    pub fn reached(&self, kind: Kind, event: Event) -> u64 {
+        self.events[kind as usize].get(&event).copied().unwrap_or(0)
+    }
+
+    /// Counts a call by its answer, the drives that it left and the lengths of their images.
+    pub fn count(
+        &mut self,
+        call: &Call,
+        answer: &Answer,
+        drives: &[Drive; 4],
+        lengths: [usize; 4],
+    ) {
         self.calls += 1;
-        let Call::Execute { block, .. } = call else {
+        let Call::Execute { block, given } = call else {
             self.resets += 1;
             return;
         };
-        let drive = &drives[usize::from(answer.status >> 5 & 3)];
+        if answer.number == 1 {
+            self.no_block += 1;
+            return;
+        }
+        let request = Request::read(block);
+        let (drive, length) = (&drives[request.drive], lengths[request.drive]);
+        let mut reached = |event| self.add(request.kind(), event, 1);
         if answer.number != 0 {
-            self.numbers[usize::from(answer.number & 3)] += 1;
+            reached(Event::Number(answer.number));
         } else if answer.status & 2 != 0 {
-            self.codes[usize::from(drive.sense[0] & 0x7F)] += 1;
+            let code = drive.sense[0] & 0x7F;
+            reached(Event::Code(code));
+            if code == 0x22 {
+                refusal(block, given, length).map(reached);
+            }
         } else {
-            self.good += 1;
-            let initialized = block[0] == 0x11;
-            self.settled += u64::from(initialized && !drive.pending);
-            self.pending += u64::from(initialized && drive.pending);
+            reached(Event::Good(request.opcode));
+            good_end(block, drive).map(reached);
         }
     }
 
-    /// Counts the kinds of duplicates that a call met.
-    pub fn count_duplicates(&mut self, met: [bool; KINDS.len()]) {
-        add_each(&mut self.duplicates, &met.map(u64::from));
-    }
-
-    /// The things that must be reached, by name.
-    fn wanted(&self) -> Vec<(String, u64)> {
-        let code = |code| (format!("code {code:02X}h"), self.codes[usize::from(code)]);
-        let number = |number| (format!("number {number}"), self.numbers[number]);
-        let duplicate = |kind| (format!("duplicate: {}", KINDS[kind]), self.duplicates[kind]);
-        let codes = CODES.into_iter().map(code);
-        codes.chain((1..4).map(number)).chain((0..KINDS.len()).map(duplicate)).collect()
-    }
-
-    /// Everything, by name.
-    fn rows(&self) -> Vec<(String, u64)> {
-        let others = [
-            ("good", self.good),
-            ("11h settled", self.settled),
-            ("11h pending", self.pending),
+    /// Totals by name.
+    fn totals(&self) -> [(&'static str, u64); 4] {
+        [
+            ("number 1", self.no_block),
             ("resets", self.resets),
             ("calls", self.calls),
             ("starts", self.starts),
-            ("looked up", self.looked_up),
-        ];
-        let others = others.map(|(name, count)| (name.to_string(), count));
-        self.wanted().into_iter().chain(others).collect()
+        ]
     }
 
-    /// What must be reached and was not.
-    pub fn missing(&self) -> Vec<String> {
-        let missing = self.wanted().into_iter().filter(|(_, count)| *count == 0);
-        missing.map(|(name, _)| name).collect()
+    /// What cannot be and yet was, or has to be reached and was not.
+    pub fn faults(&self, starts: Starts) -> Vec<String> {
+        let mut faults = Vec::new();
+        for kind in Kind::ALL {
+            for event in Event::all() {
+                let reached = self.reached(kind, event) > 0;
+                if reached != event.is_possible(starts, kind) {
+                    let what = if reached { "was reached" } else { "was not reached" };
+                    faults.push(format!("{starts:?}, {kind:?}: {event} {what}"));
+                }
+            }
+        }
+        for (name, _) in self.totals().into_iter().filter(|(_, count)| *count == 0) {
+            faults.push(format!("{starts:?}: no {name}"));
+        }
+        faults
+    }
+}
+
+/// What a good end is besides.
+fn good_end(block: &[u8], drive: &Drive) -> Option<Event> {
+    match block[0] {
+        0x11 if drive.pending => Some(Event::Pending),
+        0x11 => Some(Event::Settled),
+        opcode @ (0x04 | 0x06) if block[5] & 0x20 != 0 => Some(Event::BitFive(opcode)),
+        _ => None,
+    }
+}
+
+/// What 22h is besides, on an image of this length.
+fn refusal(block: &[u8], given: &[u8], length: usize) -> Option<Event> {
+    let request = Request::read(block);
+    match request.opcode {
+        0x11 => {
+            let config = given.first_chunk()?;
+            let mut others = Kind::ALL.into_iter().filter(|&kind| kind != request.kind());
+            let taken = others.any(|kind| Geometry::read(kind, config, length).is_some());
+            (taken && block[1] < 0x80).then_some(Event::OtherKind)
+        }
+        opcode @ (0x05 | 0x0E) => {
+            let in_order = block[1] < 0x80 && block[5] == 0 && (1..16).contains(&block[4]);
+            in_order.then_some(Event::Refused { opcode, present: length >= LABEL })
+        }
+        _ => None,
     }
 }
 
@@ -134,9 +240,22 @@ pub struct Table<'a> {
 
 impl fmt::Display for Table<'_> {
     fn fmt(&self, f: &mut fmt::Formatter) -> fmt::Result {
-        write!(f, "{:<28}{:>12}{:>12}", "reached", "lists", "damaged")?;
-        for ((name, lists), (_, damaged)) in self.lists.rows().iter().zip(self.damaged.rows()) {
-            write!(f, "\n{name:<28}{lists:>12}{damaged:>12}")?;
+        let tallies = [self.lists, self.damaged];
+        write!(f, "{:<30}{:>24}{:>24}", "reached", "lists", "damaged")?;
+        write!(f, "\n{:<30}", "")?;
+        for _ in tallies {
+            write!(f, "{:>12}{:>12}", "hard disks", "floppies")?;
+        }
+        for event in Event::all() {
+            write!(f, "\n{event:<30}")?;
+            for tally in tallies {
+                for kind in Kind::ALL {
+                    write!(f, "{:>12}", tally.reached(kind, event))?;
+                }
+            }
+        }
+        for ((name, lists), (_, damaged)) in self.lists.totals().iter().zip(self.damaged.totals()) {
+            write!(f, "\n{name:<30}{lists:>24}{damaged:>24}")?;
         }
         Ok(())
     }

@@ -1,14 +1,15 @@
-//! What the comparison catches: any change of an outcome, and engines that use another slot than
-//! the first of those that hold a sector.
+//! What the comparison catches: any change of an outcome, engines that use another slot than the
+//! first of those that hold a sector, and engines that take floppies for something else.
 
 use std::time::{Duration, Instant};
 
 use comparison::compare::{self, Bounds};
 use comparison::engine::{Call, Engine};
 use comparison::outcome::{Outcome, Setting};
-use comparison::paper::{self, Condition, Geometry};
-use comparison::plain::{Answer, Controller};
+use comparison::paper::{self, Condition, Config, Geometry, Kind};
+use comparison::plain::{Answer, Controller, Drive};
 use comparison::random::{self, Random, Scale};
+use comparison::tally::{Event, Tally};
 
 fn bounds(starts: u64) -> Bounds {
     Bounds { seed: 77 << 32, starts, deadline: Instant::now() + Duration::from_secs(60) }
@@ -84,7 +85,8 @@ impl Misled {
     }
 
     fn mislead(&self, drive: usize, image: &mut [u8], opcode: u8) -> Changed {
-        let geometry = Geometry::read(&self.engine.drives[drive].config, image.len());
+        let config = &self.engine.drives[drive].config;
+        let geometry = Geometry::read(Kind::of(drive), config, image.len());
         let mislead = if opcode == 0x08 { self.read } else { self.write };
         geometry.map_or(Vec::new(), |geometry| mislead(image, &geometry))
     }
@@ -97,8 +99,8 @@ fn restore(image: &mut [u8], changed: Changed) {
 }
 
 impl Engine for Misled {
-    fn reset(&mut self, image0: &[u8], image1: &[u8]) -> Answer {
-        self.engine.reset(image0, image1)
+    fn reset(&mut self, images: [&[u8]; 4]) -> Answer {
+        self.engine.reset(images)
     }
 
     fn execute(
@@ -106,17 +108,17 @@ impl Engine for Misled {
         block: &[u8],
         given: &[u8],
         area: &mut [u8],
-        image0: &mut [u8],
-        image1: &mut [u8],
+        mut images: [&mut [u8]; 4],
     ) -> Answer {
         let Some(&opcode @ (0x08 | 0x0A)) = block.first() else {
-            return self.engine.execute(block, given, area, image0, image1);
+            return self.engine.execute(block, given, area, images);
         };
-        let changed0 = self.mislead(0, image0, opcode);
-        let changed1 = self.mislead(1, image1, opcode);
-        let answer = self.engine.execute(block, given, area, image0, image1);
-        restore(image0, changed0);
-        restore(image1, changed1);
+        let changed: Vec<Changed> =
+            (0..4).map(|drive| self.mislead(drive, images[drive], opcode)).collect();
+        let answer = self.engine.execute(block, given, area, images.each_mut().map(|i| &mut **i));
+        for (image, changed) in images.into_iter().zip(changed) {
+            restore(image, changed);
+        }
         answer
     }
 
@@ -156,7 +158,233 @@ fn lists_do_not_show_the_slot() {
     let make = |record: &Controller| Misled::new(record, last_slot, last_slot);
     let tally = compare::lists(&make, Scale::Small, bounds(100)).unwrap();
     assert_eq!(tally.starts, 100, "all starts were made");
-    assert!(tally.looked_up > 0, "sectors were written and looked up");
+    for kind in Kind::ALL {
+        let looked_up = tally.reached(kind, Event::LookedUp);
+        assert!(looked_up > 0, "sectors of {kind:?}s were written and looked up");
+    }
+}
+
+/// What a command is lent.
+struct Lent<'a> {
+    block: &'a [u8],
+    given: &'a [u8],
+    area: &'a mut [u8],
+    images: [&'a mut [u8]; 4],
+}
+
+impl Lent<'_> {
+    /// The command done rightly.
+    fn right(&mut self, engine: &mut Controller) -> Answer {
+        self.instead(engine, self.block, self.given)
+    }
+
+    /// Another block and other data in place of those lent.
+    fn instead(&mut self, engine: &mut Controller, block: &[u8], given: &[u8]) -> Answer {
+        engine.execute(block, given, self.area, self.images.each_mut().map(|image| &mut **image))
+    }
+
+    /// The block with one byte changed.
+    fn with_byte(&mut self, engine: &mut Controller, at: usize, byte: u8) -> Answer {
+        let mut block = self.block.to_vec();
+        block[at] = byte;
+        self.instead(engine, &block, self.given)
+    }
+
+    fn drive(&self) -> usize {
+        usize::from(self.block[1] >> 5 & 3)
+    }
+
+    fn kind(&self) -> Kind {
+        Kind::of(self.drive())
+    }
+
+    /// Whether it is one of these commands, for this kind of drive.
+    fn is(&self, kind: Kind, opcodes: &[u8]) -> bool {
+        opcodes.contains(&self.block[0]) && self.kind() == kind
+    }
+
+    /// Fills the data of the tracks that a format of a floppy has just made.
+    fn refill(&mut self, engine: &Controller, fill: &[u8]) {
+        let (drive, kind) = (self.drive(), self.kind());
+        let image = &mut self.images[drive];
+        let geometry = Geometry::read(kind, &engine.drives[drive].config, image.len());
+        let geometry = geometry.expect("it was formatted");
+        let address = u32::from_be_bytes([0, self.block[1] & 0x1F, self.block[2], self.block[3]]);
+        let (first, _) = geometry.split(address);
+        let end = if self.block[0] == 0x04 { geometry.tracks() } else { first + 1 };
+        for track in first..end {
+            for slot in 0..geometry.sectors {
+                image[geometry.slot_data(track, slot)].copy_from_slice(fill);
+            }
+        }
+    }
+}
+
+type Command = fn(&mut Controller, Lent) -> Answer;
+type Reset = fn(&mut Controller, [&[u8]; 4]) -> Answer;
+
+/// The plain engine made wrong: commands of six bytes, or Reset, are done in another way.
+struct Wrong {
+    engine: Controller,
+    command: Command,
+    reset: Reset,
+}
+
+impl Engine for Wrong {
+    fn reset(&mut self, images: [&[u8]; 4]) -> Answer {
+        (self.reset)(&mut self.engine, images)
+    }
+
+    fn execute(
+        &mut self,
+        block: &[u8],
+        given: &[u8],
+        area: &mut [u8],
+        images: [&mut [u8]; 4],
+    ) -> Answer {
+        let mut lent = Lent { block, given, area, images };
+        if block.len() == 6 {
+            (self.command)(&mut self.engine, lent)
+        } else {
+            lent.right(&mut self.engine)
+        }
+    }
+
+    fn record(&self) -> Controller {
+        self.engine.clone()
+    }
+}
+
+fn as_it_should(engine: &mut Controller, mut lent: Lent) -> Answer {
+    lent.right(engine)
+}
+
+/// A format of a floppy with these commands fills 6Ch.
+fn filled_6c(engine: &mut Controller, mut lent: Lent, opcodes: &[u8]) -> Answer {
+    let answer = lent.right(engine);
+    if lent.is(Kind::Floppy, opcodes) && answer.status & 2 == 0 {
+        lent.refill(engine, &[0x6C; 128]);
+    }
+    answer
+}
+
+fn buffer_fills(engine: &mut Controller, mut lent: Lent) -> Answer {
+    let answer = lent.right(engine);
+    let bit_5 = lent.block[5] & 0x20 != 0;
+    if lent.is(Kind::Floppy, &[0x04, 0x06]) && bit_5 && answer.status & 2 == 0 {
+        lent.refill(engine, &engine.buffer[..128]);
+    }
+    answer
+}
+
+fn bit_5_refused(engine: &mut Controller, mut lent: Lent) -> Answer {
+    if lent.is(Kind::Floppy, &[0x04, 0x06]) && lent.block[5] & 0x20 != 0 {
+        return lent.with_byte(engine, 5, 0x40);
+    }
+    lent.right(engine)
+}
+
+/// Initialize takes what is valid on the other kind of drive.
+fn takes_bytes(of: Kind, engine: &mut Controller, mut lent: Lent) -> Answer {
+    let mut answer = lent.right(engine);
+    let (drive, failed) = (lent.drive(), answer.status & 2 != 0);
+    let refused = lent.block[0] == 0x11 && lent.block[1] < 0x80 && lent.kind() != of && failed;
+    let length = lent.images[drive].len();
+    let takes = |config: &&Config| refused && Geometry::read(of, config, length).is_some();
+    if let Some(config) = lent.given.first_chunk().filter(takes) {
+        let sense = [0, 32 * drive as u8, 0, 0];
+        engine.drives[drive] = Drive { sense, config: *config, known: true, pending: true };
+        answer.status -= 2;
+    }
+    answer
+}
+
+/// Floppies have a hard disk's limit of configuration byte 9.
+fn byte_9_read(engine: &mut Controller, mut lent: Lent) -> Answer {
+    if lent.is(Kind::Floppy, &[0x11]) && lent.given.get(9).is_some_and(|&byte| byte > 11) {
+        return lent.instead(engine, lent.block, &[0; 10]);
+    }
+    lent.right(engine)
+}
+
+fn interleave_16(engine: &mut Controller, mut lent: Lent) -> Answer {
+    if lent.is(Kind::Floppy, &[0x04, 0x06, 0x07]) && lent.block[4] == 16 {
+        return lent.with_byte(engine, 4, 1);
+    }
+    lent.right(engine)
+}
+
+/// An absent floppy gives 04h where it should give 22h of a command that it has not.
+fn absent_first(engine: &mut Controller, mut lent: Lent, opcode: u8) -> Answer {
+    let absent = lent.images[lent.drive()].len() < 16;
+    let in_order = lent.block[1] < 0x80 && lent.block[5] & 0x7F == 0;
+    if lent.is(Kind::Floppy, &[opcode]) && absent && in_order {
+        return lent.with_byte(engine, 0, 0x00);
+    }
+    lent.right(engine)
+}
+
+fn sense_in_drive_2(engine: &mut Controller, mut lent: Lent) -> Answer {
+    let before = engine.drives[3].sense;
+    let answer = lent.right(engine);
+    let after = std::mem::replace(&mut engine.drives[3].sense, before);
+    if after != before {
+        engine.drives[2].sense = after;
+    }
+    answer
+}
+
+fn drive_3_on_image_2(engine: &mut Controller, mut lent: Lent) -> Answer {
+    if lent.drive() == 3 {
+        lent.images.swap(2, 3);
+    }
+    lent.right(engine)
+}
+
+fn resets_hard_disks(engine: &mut Controller, images: [&[u8]; 4]) -> Answer {
+    engine.reset([images[0], images[1], &[], &[]])
+}
+
+fn resets_drive_3_from_image_2(engine: &mut Controller, images: [&[u8]; 4]) -> Answer {
+    engine.reset([images[0], images[1], images[2], images[2]])
+}
+
+/// What the comparison says of an engine, on lists and on damaged images.
+fn both_comparisons(command: Command, reset: Reset) -> [Result<(), String>; 2] {
+    let make = |record: &Controller| Wrong { engine: record.clone(), command, reset };
+    let all_made = |tally: Tally| assert_eq!(tally.starts, 1_000, "all starts were made");
+    let lists = compare::lists(&make, Scale::Small, bounds(1_000)).map(all_made);
+    [lists, compare::damaged(&make, Scale::Small, bounds(1_000)).map(all_made)]
+}
+
+#[test]
+fn wrong_floppies_are_caught() {
+    assert_eq!(both_comparisons(as_it_should, Controller::reset), [Ok(()), Ok(())]);
+    let engines: [(&str, Command); 12] = [
+        ("6Ch fills floppies", |e, lent| filled_6c(e, lent, &[0x04, 0x06, 0x07])),
+        ("6Ch fills a floppy's bad track", |e, lent| filled_6c(e, lent, &[0x07])),
+        ("the buffer fills floppies with bit 5", buffer_fills),
+        ("bit 5 is undefined on floppies", bit_5_refused),
+        ("a hard disk's bytes on floppies", |e, lent| takes_bytes(Kind::HardDisk, e, lent)),
+        ("a floppy's bytes on hard disks", |e, lent| takes_bytes(Kind::Floppy, e, lent)),
+        ("byte 9 is read on floppies", byte_9_read),
+        ("interleave 16 on floppies", interleave_16),
+        ("Check Track's 22h after 04h", |e, lent| absent_first(e, lent, 0x05)),
+        ("Assign Alternate's 22h after 04h", |e, lent| absent_first(e, lent, 0x0E)),
+        ("drive 3's sense in drive 2's place", sense_in_drive_2),
+        ("drive 3 works on drive 2's image", drive_3_on_image_2),
+    ];
+    let resets: [(&str, Reset); 2] = [
+        ("Reset loads no floppy's label", resets_hard_disks),
+        ("Reset loads drive 3's label from image 2", resets_drive_3_from_image_2),
+    ];
+    let commands = engines.map(|(name, command)| (name, command, Controller::reset as Reset));
+    let resets = resets.map(|(name, reset)| (name, as_it_should as Command, reset));
+    for (name, command, reset) in commands.into_iter().chain(resets) {
+        let [lists, damaged] = both_comparisons(command, reset);
+        println!("{name}: lists: {}", lists.expect_err(name));
+        println!("{name}: damaged: {}", damaged.expect_err(name));
+    }
 }
 
 /// A call on a damaged start.
@@ -202,8 +430,8 @@ fn tamper(random: &mut Random, outcome: &mut Outcome) -> Option<()> {
         8 => record.known ^= true,
         9 => setting.controller.buffer[random.size_below(512)] ^= bits,
         10 => *setting.area.get_mut(random.size_below(600))? ^= bits,
-        11 => *setting.images[drive % 2].get_mut(random.size_below(20_000))? ^= bits,
-        _ => *setting.images[drive % 2].last_mut()? ^= bits,
+        11 => *setting.images[drive].get_mut(random.size_below(20_000))? ^= bits,
+        _ => *setting.images[drive].last_mut()? ^= bits,
     }
     Some(())
 }
@@ -230,10 +458,12 @@ fn every_change_is_noticed() {
 fn lengths_are_compared() {
     let (before, call) = one_call(0);
     let expected = Outcome::of(before, &call);
+    for drive in 0..4 {
+        let mut longer = expected.clone();
+        longer.setting.images[drive].push(0);
+        assert!(expected.compare(&longer).is_err());
+    }
     let mut longer = expected.clone();
-    longer.setting.images[1].push(0);
-    assert!(expected.compare(&longer).is_err());
-    longer = expected.clone();
     longer.setting.area.push(0);
     assert!(expected.compare(&longer).is_err());
 }

@@ -1,13 +1,21 @@
 //! Where two slots hold one sector, the first is read and written and the other is left alone, on a
-//! home track and on the partner of a moved one: seen by bytes, for every pair of slots.
+//! home track and on the partner of a moved one, on hard disks and floppies: seen by bytes, for every
+//! pair of slots.
 
 use comparison::engine::{Call, Engine};
 use comparison::outcome::{Outcome, Setting};
-use comparison::paper::Geometry;
+use comparison::paper::{Config, Geometry, Kind};
 use comparison::plain::{Answer, Controller};
 use comparison::proved::Proved;
 
 const INTERLEAVE: u8 = 3;
+
+/// Four tracks of each size, with their drives.
+const DISKS: [(usize, Config); 3] = [
+    (0, [0, 4, 1, 0, 1, 0, 0, 0, 0, 0]),
+    (1, [0, 4, 1, 0, 2, 0, 0, 0, 0, 0]),
+    (2, [0, 4, 1, 1, 0, 0, 0, 0, 0, 0]),
+];
 
 /// A track, and the one where its sectors are: track 0 keeps its own, track 1 is moved to track 3.
 const TRACKS: [(u32, u32); 2] = [(0, 0), (1, 3)];
@@ -19,21 +27,22 @@ const LENT: u8 = 0xEE;
 /// An engine with one drive.
 struct Disk<E> {
     engine: E,
+    drive: usize,
     geometry: Geometry,
     image: Vec<u8>,
 }
 
 impl<E: Engine> Disk<E> {
     /// Four tracks with data that tell each slot from all others.
-    fn new(make: &impl Fn(&Controller) -> E, size: u8) -> Disk<E> {
-        let config = [0, 4, 1, 0, size, 0, 0, 0, 0, 0];
-        let geometry = Geometry::read(&config, usize::MAX).expect("a valid configuration");
-        let engine = make(&Controller::fresh(&[], &[]));
-        let mut disk = Disk { engine, geometry, image: vec![0; geometry.image_length()] };
-        disk.good([0x11, 0, 0, 0, 0, 0], &config, &mut []);
-        disk.good([0x04, 0, 0, 0, INTERLEAVE, 0], &[], &mut []);
-        let alternate = [0, 0, (3 * geometry.sectors) as u8];
-        disk.good([0x0E, 0, 0, geometry.sectors as u8, INTERLEAVE, 0], &alternate, &mut []);
+    fn new(make: &impl Fn(&Controller) -> E, (drive, config): (usize, Config)) -> Disk<E> {
+        let geometry = Geometry::read(Kind::of(drive), &config, usize::MAX).expect("valid");
+        let engine = make(&Controller::fresh([&[]; 4]));
+        let mut disk = Disk { engine, drive, geometry, image: vec![0; geometry.image_length()] };
+        disk.good(disk.block(0x11, 0, 0, 0), &config, &mut []);
+        disk.good(disk.block(0x04, 0, 0, INTERLEAVE), &[], &mut []);
+        // As Assign Alternate leaves them, which floppies do not have.
+        disk.pair(1, 2, 3);
+        disk.pair(3, 3, 1);
         for track in 0..4 {
             for slot in 0..geometry.sectors {
                 let byte = disk.byte_of(track, slot);
@@ -41,6 +50,13 @@ impl<E: Engine> Disk<E> {
             }
         }
         disk
+    }
+
+    /// Gives all slots of a track a flag and a partner.
+    fn pair(&mut self, track: u32, flag: u8, partner: u8) {
+        for slot in 0..self.geometry.sectors {
+            self.id(track, slot)[5..].copy_from_slice(&[flag, 0, partner]);
+        }
     }
 
     fn byte_of(&self, track: u32, slot: u32) -> u8 {
@@ -52,19 +68,25 @@ impl<E: Engine> Disk<E> {
     }
 
     fn execute(&mut self, block: [u8; 6], given: &[u8], area: &mut [u8]) -> Answer {
-        self.engine.execute(&block, given, area, &mut self.image, &mut [])
+        let mut images: [&mut [u8]; 4] = Default::default();
+        images[self.drive] = &mut self.image;
+        self.engine.execute(&block, given, area, images)
     }
 
     fn good(&mut self, block: [u8; 6], given: &[u8], area: &mut [u8]) -> Answer {
         let answer = self.execute(block, given, area);
-        assert_eq!((answer.number, answer.status), (0, 0), "{block:02X?}");
+        assert_eq!((answer.number, answer.status), (0, self.drive_bits()), "{block:02X?}");
         answer
+    }
+
+    fn drive_bits(&self) -> u8 {
+        32 * self.drive as u8
     }
 
     /// The block of a command on one sector.
     fn block(&self, opcode: u8, track: u32, sector: u8, fifth: u8) -> [u8; 6] {
         let address = track * self.geometry.sectors + u32::from(sector);
-        [opcode, 0, 0, address as u8, fifth, 0]
+        [opcode, self.drive_bits(), 0, address as u8, fifth, 0]
     }
 
     /// A Read hands over the slot's data and changes no image.
@@ -106,9 +128,9 @@ impl<E: Engine> Disk<E> {
     /// the first that is not.
     fn ends_run(&self, answer: Answer, found: usize, count: usize) {
         let failed = found < count;
-        assert_eq!((usize::from(answer.sectors), answer.status), (found, 2 * u8::from(failed)));
-        let code = if failed { 0x94 } else { 0 };
-        assert_eq!(self.engine.record().drives[0].sense[0], code);
+        let status = self.drive_bits() + 2 * u8::from(failed);
+        assert_eq!((usize::from(answer.sectors), answer.status), (found, status));
+        assert_eq!(self.code(), if failed { 0x94 } else { 0 });
     }
 
     /// A Read of all the track's sectors from this one on hands over each one's first slot, up to
@@ -146,11 +168,16 @@ impl<E: Engine> Disk<E> {
         assert!(self.image == expected, "not exactly the first slots {slots:?} were written");
     }
 
-    /// Check Track looks at all slots and finds the one that is not as formatted.
+    /// The first byte of the drive's sense.
+    fn code(&self) -> u8 {
+        self.engine.record().drives[self.drive].sense[0]
+    }
+
+    /// Check Track looks at all slots and finds the one that is not as formatted; floppies have none.
     fn fails_check(&mut self, track: u32) {
         let answer = self.execute(self.block(0x05, track, 0, INTERLEAVE), &[], &mut []);
-        assert_eq!((answer.number, answer.status), (0, 2));
-        assert_eq!(self.engine.record().drives[0].sense[0], 0x9A);
+        assert_eq!((answer.number, answer.status), (0, self.drive_bits() + 2));
+        assert_eq!(self.code(), if self.drive < 2 { 0x9A } else { 0x22 });
     }
 }
 
@@ -160,15 +187,20 @@ fn pairs(geometry: &Geometry, lowest: u32) -> impl Iterator<Item = (u32, u32)> {
     (lowest..end).flat_map(move |first| (first + 1..end).map(move |second| (first, second)))
 }
 
-/// Calls `one` for each pair on each track of [`TRACKS`], on drives of either size; says how often.
+/// How many pairs so many slots have.
+fn pairs_of(slots: u32) -> u32 {
+    slots * (slots - 1) / 2
+}
+
+/// Calls `one` for each pair on each track of [`TRACKS`], on each of [`DISKS`]; says how often.
 fn each_pair<E: Engine>(
     make: &impl Fn(&Controller) -> E,
     lowest: u32,
     one: impl Fn(&mut Disk<E>, (u32, u32), (u32, u32)),
 ) -> u32 {
     let mut count = 0;
-    for size in [1, 2] {
-        let mut disk = Disk::new(make, size);
+    for disk in DISKS {
+        let mut disk = Disk::new(make, disk);
         let image = disk.image.clone();
         for tracks in TRACKS {
             for pair in pairs(&disk.geometry, lowest) {
@@ -194,7 +226,7 @@ fn first_of_two<E: Engine>(make: &impl Fn(&Controller) -> E) {
             disk.fails_check(track);
         }
     });
-    assert_eq!(count, 2 * (32 * 31 / 2 + 17 * 16 / 2), "two tracks of 32 slots, two of 17");
+    assert_eq!(count, 2 * (pairs_of(32) + pairs_of(17) + pairs_of(16)), "two tracks of each disk");
 }
 
 /// As before, with transfers of all sectors before and behind the one that no slot holds any more:
@@ -214,7 +246,7 @@ fn first_of_two_in_runs<E: Engine>(make: &impl Fn(&Controller) -> E) {
             }
         }
     });
-    assert_eq!(count, 2 * (32 * 31 / 2 + 17 * 16 / 2), "two tracks of 32 slots, two of 17");
+    assert_eq!(count, 2 * (pairs_of(32) + pairs_of(17) + pairs_of(16)), "two tracks of each disk");
 }
 
 /// The first slot of the pair has no A1h, so that the second is the first that holds the sector.
@@ -227,7 +259,7 @@ fn second_where_the_first_lacks_a1<E: Engine>(make: &impl Fn(&Controller) -> E) 
         disk.reads(track, sector, (searched, second));
         disk.writes(track, sector, (searched, second));
     });
-    assert_eq!(count, 2 * (31 * 30 / 2 + 16 * 15 / 2), "two tracks of 32 slots, two of 17");
+    assert_eq!(count, 2 * (pairs_of(31) + pairs_of(16) + pairs_of(15)), "two tracks of each disk");
 }
 
 #[test]
@@ -246,12 +278,13 @@ fn proved_uses_the_first() {
 
 /// What the comparison says of a Write that wrote these slots, where slots 2 and 5 hold its sector.
 fn written(slots: &[u32], (track, searched): (u32, u32)) -> Result<(), String> {
-    let mut disk = Disk::new(&Controller::clone, 1);
+    let mut disk = Disk::new(&Controller::clone, DISKS[0]);
     let sector = disk.id(searched, 2)[4];
     disk.id(searched, 5)[4] = sector;
     let block = disk.block(0x0A, track, sector, 1);
-    let Disk { engine: controller, geometry, image } = disk;
-    let before = Setting { controller, area: Vec::new(), images: [image, Vec::new()] };
+    let Disk { engine: controller, geometry, image, .. } = disk;
+    let images = [image, Vec::new(), Vec::new(), Vec::new()];
+    let before = Setting { controller, area: Vec::new(), images };
     let mut setting = before.clone();
     for &slot in slots {
         setting.images[0][geometry.slot_data(searched, slot)].fill(WRITTEN);

@@ -1,22 +1,34 @@
 //! The proved disk engine of a fitting console's controller card.
 //!
-//! A [`Controller`] is lent with two disk images to each call. Every call is proved for any record, block, data and images, of
-//! any bytes and lengths; borrowing rules out what the C header leaves to the caller.
+//! A [`Controller`] is lent with four disk images to each call, by drive: 0 and 1 are hard disks, 2
+//! and 3 floppies. An image under 16 bytes, so an empty slice too, is an absent drive. Every call is
+//! proved for any record, block, data and images, of any bytes and lengths; borrowing rules out what
+//! the C header leaves to the caller.
 //!
 //! ```
 //! use lanthewg::Controller;
 //!
-//! let mut image0 = vec![0; 25_360];
-//! let mut image1 = vec![0; 25_360];
+//! let mut disk = vec![0; 25_360];
+//! let mut floppy = vec![0; 16 + 2_176];
 //! let mut area = [0; 1_024];
-//! let mut card = Controller::fresh(&image0, &image1);
+//! let mut card = Controller::fresh([&disk, &[], &floppy, &[]]);
 //!
 //! // Test Ready fails on a drive without parameters, and Request Sense says why.
-//! let answer = card.execute(&[0, 0, 0, 0, 0, 0], &[], &mut area, &mut image0, &mut image1);
+//! let ready = [0x00, 0, 0, 0, 0, 0];
+//! let answer = card.execute(&ready, &[], &mut area, [&mut disk, &mut [], &mut floppy, &mut []]);
 //! assert_eq!((answer.number, answer.status), (0, 0x02));
-//! let answer = card.execute(&[3, 0, 0, 0, 0, 0], &[], &mut area, &mut image0, &mut image1);
+//! let sense = [0x03, 0, 0, 0, 0, 0];
+//! let answer = card.execute(&sense, &[], &mut area, [&mut disk, &mut [], &mut floppy, &mut []]);
 //! assert_eq!(answer.bytes, 4);
 //! assert_eq!(area[..4], [0x0A, 0, 0, 0]);
+//!
+//! // Initialize gives drive 2 a floppy's parameters: one cylinder, one head.
+//! let initialize = [0x11, 0x40, 0, 0, 0, 0];
+//! let config = [0, 1, 1, 0x01, 0, 0, 0, 0, 0, 0];
+//! let images = [&mut disk[..], &mut [], &mut floppy, &mut []];
+//! let answer = card.execute(&initialize, &config, &mut area, images);
+//! assert_eq!((answer.number, answer.status), (0, 0x40));
+//! assert!(card.drives[2].pending);
 //! ```
 
 /// The examples of the repository's README are run as tests.
@@ -56,8 +68,28 @@ pub struct Answer {
 }
 
 extern "C" {
-    fn lanthewg_fresh(c: *mut Controller, image0: *const u8, length0: usize, image1: *const u8, length1: usize);
-    fn lanthewg_reset(c: *mut Controller, image0: *const u8, length0: usize, image1: *const u8, length1: usize) -> Answer;
+    fn lanthewg_fresh(
+        c: *mut Controller,
+        image0: *const u8,
+        length0: usize,
+        image1: *const u8,
+        length1: usize,
+        image2: *const u8,
+        length2: usize,
+        image3: *const u8,
+        length3: usize,
+    );
+    fn lanthewg_reset(
+        c: *mut Controller,
+        image0: *const u8,
+        length0: usize,
+        image1: *const u8,
+        length1: usize,
+        image2: *const u8,
+        length2: usize,
+        image3: *const u8,
+        length3: usize,
+    ) -> Answer;
     fn lanthewg_execute(
         c: *mut Controller,
         block: *const u8,
@@ -70,24 +102,54 @@ extern "C" {
         length0: usize,
         image1: *mut u8,
         length1: usize,
+        image2: *mut u8,
+        length2: usize,
+        image3: *mut u8,
+        length3: usize,
     ) -> Answer;
 }
 
 impl Controller {
-    /// A controller as it is after Reset: a valid label comes into force. An image under 16 bytes is an absent drive.
+    /// A controller as it is after Reset: each drive's label, if valid, comes into force.
     #[inline]
-    pub fn fresh(image0: &[u8], image1: &[u8]) -> Controller {
+    pub fn fresh(images: [&[u8]; 4]) -> Controller {
         let blank = Drive { sense: [0; 4], config: [0; 10], known: false, pending: false };
         let mut record = Controller { buffer: [0; 512], drives: [blank; 4] };
+        let [image0, image1, image2, image3] = images;
         // SAFETY: each pointer leads to as many bytes as its length says.
-        unsafe { lanthewg_fresh(&mut record, image0.as_ptr(), image0.len(), image1.as_ptr(), image1.len()) };
+        unsafe {
+            lanthewg_fresh(
+                &mut record,
+                image0.as_ptr(),
+                image0.len(),
+                image1.as_ptr(),
+                image1.len(),
+                image2.as_ptr(),
+                image2.len(),
+                image3.as_ptr(),
+                image3.len(),
+            )
+        };
         record
     }
 
     #[inline]
-    pub fn reset(&mut self, image0: &[u8], image1: &[u8]) -> Answer {
+    pub fn reset(&mut self, images: [&[u8]; 4]) -> Answer {
+        let [image0, image1, image2, image3] = images;
         // SAFETY: as above, and the record is lent to this call alone.
-        unsafe { lanthewg_reset(self, image0.as_ptr(), image0.len(), image1.as_ptr(), image1.len()) }
+        unsafe {
+            lanthewg_reset(
+                self,
+                image0.as_ptr(),
+                image0.len(),
+                image1.as_ptr(),
+                image1.len(),
+                image2.as_ptr(),
+                image2.len(),
+                image3.as_ptr(),
+                image3.len(),
+            )
+        }
     }
 
     /// A command: its block, the data given with it, and the data area for what it hands over.
@@ -97,9 +159,9 @@ impl Controller {
         block: &[u8],
         given: &[u8],
         area: &mut [u8],
-        image0: &mut [u8],
-        image1: &mut [u8],
+        images: [&mut [u8]; 4],
     ) -> Answer {
+        let [image0, image1, image2, image3] = images;
         // SAFETY: as above; what may change is lent to this call alone.
         unsafe {
             lanthewg_execute(
@@ -114,6 +176,10 @@ impl Controller {
                 image0.len(),
                 image1.as_mut_ptr(),
                 image1.len(),
+                image2.as_mut_ptr(),
+                image2.len(),
+                image3.as_mut_ptr(),
+                image3.len(),
             )
         }
     }

@@ -30,7 +30,7 @@ use Rattle.firmware.proofs.lanthewg_execute.Code as code
 
 abbrev this : Lends
 this = record {
-  lifetimes = 5;
+  lifetimes = 7;
   record-row = controller.the-row;
   result = answer.the-row;
   slots = others (self.signature .params);
@@ -41,7 +41,13 @@ this = record {
       shared-slice (named 2) (κs .1 .1 .0),
       (
         lent-slice (named 3) (κs .1 .1 .1 .0),
-        (lent-slice (named 4) (κs .1 .1 .1 .1 .0), (lent-slice (named 5) (κs .1 .1 .1 .1 .1 .0), tt)),
+        (
+          lent-slice (named 4) (κs .1 .1 .1 .1 .0),
+          (
+            lent-slice (named 5) (κs .1 .1 .1 .1 .1 .0),
+            (lent-slice (named 6) (κs .1 .1 .1 .1 .1 .1 .0), (lent-slice (named 7) (κs .1 .1 .1 .1 .1 .1 .1 .0), tt)),
+          ),
+        ),
       ),
     ),
   );
@@ -65,34 +71,41 @@ module _ {M : Type 1} (𝓤 : URA M) (H : Heap 𝓤) (A : Atoms 𝓤) (W : Given
       → Walk this 𝓤 H A W (self.clauses 𝓤 H A mem run) (WpFn 𝓤 H C Λ code.function)
   walk C Λ fm met x g known =
       qed W (raw (entry this x 𝓤 H A) ∷ []) ∵ splits this x ! $ starts ! C Λ code.function (flats this x) _ (suited this x 𝓤 H A W known) (λ l.
-      -- [_14; …; _0; …; obs; the borrow; its token; what the others own; their tokens]
-      move ! (30 ∷ 31 ∷ 32 ∷ []) $ opens-record ! tt controller.the-type controller′.the-laws (x .held) (x .block) (x .offset) (λ was.
-      -- [the record; what it owns; the open borrow; obs; auth; _14; …; _0; …; what the others own; their tokens]
-      sets ! (of-opd ! (behind-at ! 31 0 refl refl)) 17 refl (record-typed 𝓤 H A W (x .held) _ was .0) $
+      -- [_20; …; _0; …; obs; the borrow; its token; what the others own; their tokens]
+      move ! (42 ∷ 43 ∷ 44 ∷ []) $ opens-record ! tt controller.the-type controller′.the-laws (x .held) (x .block) (x .offset) (λ was.
+      -- [the record; what it owns; the open borrow; obs; auth; _20; …; _0; …; what the others own; their tokens]
+      sets ! (of-opd ! (behind-at ! 43 0 refl refl)) 25 refl (record-typed 𝓤 H A W (x .held) _ was .0) $
       -- the data area and the images are lent again
-      sets ! (lent-from ! refl (part-at ! 25 0 refl refl)) 15 refl (tt, tt) $
-      sets ! (pair-of ! (local-at ! 15 refl) (field-of ! refl (part-at ! 25 1 refl refl))) 13 refl
+      sets ! (lent-from ! refl (part-at ! 37 0 refl refl)) 23 refl (tt, tt) $
+      sets ! (pair-of ! (local-at ! 23 refl) (field-of ! refl (part-at ! 37 1 refl refl))) 21 refl
       (lent-again-typed 𝓤 H A W (x .passed .1 .1 .0) (known .1 .1 .0) .0) $
-      sets ! (lent-from ! refl (part-at ! 23 0 refl refl)) 11 refl (tt, tt) $
-      sets ! (pair-of ! (local-at ! 11 refl) (field-of ! refl (part-at ! 23 1 refl refl))) 9 refl
+      sets ! (lent-from ! refl (part-at ! 35 0 refl refl)) 19 refl (tt, tt) $
+      sets ! (pair-of ! (local-at ! 19 refl) (field-of ! refl (part-at ! 35 1 refl refl))) 17 refl
       (lent-again-typed 𝓤 H A W (x .passed .1 .1 .1 .0) (known .1 .1 .1 .0) .0) $
-      sets ! (lent-from ! refl (part-at ! 21 0 refl refl)) 7 refl (tt, tt) $
-      sets ! (pair-of ! (local-at ! 7 refl) (field-of ! refl (part-at ! 21 1 refl refl))) 5 refl
+      sets ! (lent-from ! refl (part-at ! 33 0 refl refl)) 15 refl (tt, tt) $
+      sets ! (pair-of ! (local-at ! 15 refl) (field-of ! refl (part-at ! 33 1 refl refl))) 13 refl
       (lent-again-typed 𝓤 H A W (x .passed .1 .1 .1 .1 .0) (known .1 .1 .1 .1 .0) .0) $
-      move ! (1 ∷ 35 ∷ 36 ∷ []) $ fjoin ! $ offers execute.ended (execute.clauses 𝓤 H A mem run) (asked x) ! (id⊢ 𝓤 _) $
-      calls-at ! fm contract met (asked x) (and-then ! (local-at ! 17 refl) (and-then ! (local-at ! 29 refl) (and-then ! (local-at ! 27 refl)
-      (and-then ! (local-at ! 13 refl) (and-then ! (local-at ! 9 refl) (and-then ! (local-at ! 5 refl) (no-more !))))))) (λ w.
+      sets ! (lent-from ! refl (part-at ! 31 0 refl refl)) 11 refl (tt, tt) $
+      sets ! (pair-of ! (local-at ! 11 refl) (field-of ! refl (part-at ! 31 1 refl refl))) 9 refl
+      (lent-again-typed 𝓤 H A W (x .passed .1 .1 .1 .1 .1 .0) (known .1 .1 .1 .1 .1 .0) .0) $
+      sets ! (lent-from ! refl (part-at ! 29 0 refl refl)) 7 refl (tt, tt) $
+      sets ! (pair-of ! (local-at ! 7 refl) (field-of ! refl (part-at ! 29 1 refl refl))) 5 refl
+      (lent-again-typed 𝓤 H A W (x .passed .1 .1 .1 .1 .1 .1 .0) (known .1 .1 .1 .1 .1 .1 .0) .0) $
+      move ! (1 ∷ 47 ∷ 48 ∷ []) $ fjoin ! $ offers execute.ended (execute.clauses 𝓤 H A mem run) (asked x) ! (id⊢ 𝓤 _) $
+      calls-at ! fm contract met (asked x) (and-then ! (local-at ! 25 refl) (and-then ! (local-at ! 41 refl) (and-then ! (local-at ! 39 refl)
+      (and-then ! (local-at ! 21 refl) (and-then ! (local-at ! 17 refl) (and-then ! (local-at ! 13 refl)
+      (and-then ! (local-at ! 9 refl) (and-then ! (local-at ! 5 refl) (no-more !))))))))) (λ w.
       answered execute.ended (execute.clauses 𝓤 H A mem run) (asked x) ! tt w (λ r ws is. rewrite ! 2 (λ (i : Item 𝓤). i) (same x r ws) refl $
       -- of the record by value there is nothing to say
       move ! (1 ∷ []) $ fsplit ! $ drop ! $ move ! (1 ∷ 0 ∷ []) $
-      -- [the others' tokens; their last values; what is to be ensured; the record; the open borrow; obs; auth; _14; …; _0; …]
-      land ! (from ! (stop !)) (init ! 21 refl (outcome-typed 𝓤 H A W r w is .0)) $ writes-out ! 21 outcome.the-type outcome′.the-laws r is refl $
-      sets-behind ! (of-opd ! (field-of ! refl (part-at ! 21 0 refl refl))) 33 3 refl refl (controller-typed 𝓤 H A W r w is .0) $
-      sets ! (of-opd ! (field-of ! refl (part-at ! 21 1 refl refl))) 35 refl (answer-typed 𝓤 H A W r w is .0) $
+      -- [the others' tokens; their last values; what is to be ensured; the record; the open borrow; obs; auth; _20; …; _0; …]
+      land ! (from ! (stop !)) (init ! 29 refl (outcome-typed 𝓤 H A W r w is .0)) $ writes-out ! 29 outcome.the-type outcome′.the-laws r is refl $
+      sets-behind ! (of-opd ! (field-of ! refl (part-at ! 29 0 refl refl))) 45 3 refl refl (controller-typed 𝓤 H A W r w is .0) $
+      sets ! (of-opd ! (field-of ! refl (part-at ! 29 1 refl refl))) 47 refl (answer-typed 𝓤 H A W r w is .0) $
       move ! (3 ∷ 4 ∷ 5 ∷ 6 ∷ []) $ closes-record ! tt controller.the-type controller′.the-plain (r .controller) _ (controller-is r w is)
       (x .block) (x .offset) $
-      -- [obs; the borrow; its token; the others' tokens; their last values; what is to be ensured; _14; …; _0; …]
-      returns ! (look ! 34 refl) $ frees-all ! 6 (_ ∷ _ ∷ _ ∷ _ ∷ _ ∷ _ ∷ _ ∷ _ ∷ _ ∷ _ ∷ _ ∷ _ ∷ _ ∷ _ ∷ _ ∷ []) refl $
+      -- [obs; the borrow; its token; the others' tokens; their last values; what is to be ensured; _20; …; _0; …]
+      returns ! (look ! 46 refl) $ frees-all ! 6 (_ ∷ _ ∷ _ ∷ _ ∷ _ ∷ _ ∷ _ ∷ _ ∷ _ ∷ _ ∷ _ ∷ _ ∷ _ ∷ _ ∷ _ ∷ _ ∷ _ ∷ _ ∷ _ ∷ _ ∷ _ ∷ []) refl $
       by ! (exits this 𝓤 H A W (self.clauses 𝓤 H A mem run) x g (r .controller) (r .answer) _ (ws .1)
       (laws.makes answer.the-type answer′.the-plain 𝓤 H A) (answer-is r w is))))))
 

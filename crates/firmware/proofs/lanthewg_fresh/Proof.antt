@@ -24,12 +24,18 @@ use Rattle.firmware.proofs.lanthewg_fresh.Code as code
 
 abbrev this : Lends
 this = record {
-  lifetimes = 2;
+  lifetimes = 4;
   record-row = controller.the-row;
   result = unit;
   slots = others (self.signature .params);
   kept = self.ended .kept .1;
-  spelled = λ κs. (shared-slice (named 1) (κs .1 .0), (shared-slice (named 2) (κs .1 .1 .0), tt));
+  spelled = λ κs. (
+    shared-slice (named 1) (κs .1 .0),
+    (
+      shared-slice (named 2) (κs .1 .1 .0),
+      (shared-slice (named 3) (κs .1 .1 .1 .0), (shared-slice (named 4) (κs .1 .1 .1 .1 .0), tt)),
+    ),
+  );
 }
 
 module _ {M : Type 1} (𝓤 : URA M) (H : Heap 𝓤) (A : Atoms 𝓤) (W : Given 𝓤 H A) (mem : Memory → SProp 𝓤) (run : Routine → Fun 𝓤) where
@@ -50,20 +56,21 @@ module _ {M : Type 1} (𝓤 : URA M) (H : Heap 𝓤) (A : Atoms 𝓤) (W : Given
       → Walk this 𝓤 H A W (self.clauses 𝓤 H A mem run) (WpFn 𝓤 H C Λ code.function)
   walk C Λ fm met x g known =
       qed W (raw (entry this x 𝓤 H A) ∷ []) ∵ splits this x ! $ starts ! C Λ code.function (flats this x) _ (suited this x 𝓤 H A W known) (λ l.
-      -- [_4; …; _0; …; obs; the borrow; its token; what the images own; their tokens]
-      move ! (13 ∷ 14 ∷ []) $ offers fresh.ended (fresh.clauses 𝓤 H A mem run) (asked x) ! (id⊢ 𝓤 _) $
-      calls-at ! fm contract met (asked x) (and-then ! (local-at ! 5 refl) (and-then ! (local-at ! 3 refl) (no-more !))) (λ w.
+      -- [_6; …; _0; …; obs; the borrow; its token; what the images own; their tokens]
+      move ! (17 ∷ 18 ∷ []) $ offers fresh.ended (fresh.clauses 𝓤 H A mem run) (asked x) ! (id⊢ 𝓤 _) $
+      calls-at ! fm contract met (asked x) (and-then ! (local-at ! 9 refl) (and-then ! (local-at ! 7 refl)
+      (and-then ! (local-at ! 5 refl) (and-then ! (local-at ! 3 refl) (no-more !))))) (λ w.
       answered fresh.ended (fresh.clauses 𝓤 H A mem run) (asked x) ! tt w (λ r ws is.
       rewrite ! 2 (λ (i : Item 𝓤). i) (same x r ws) refl $
-      -- [the images' tokens; their last values; what is to be ensured; _4; …; _0; …; obs; the borrow; its token]
+      -- [the images' tokens; their last values; what is to be ensured; _6; …; _0; …; obs; the borrow; its token]
       land ! (from ! (stop !)) (init ! 3 refl (record-typed 𝓤 H A W r w is .0)) $
-      move ! (13 ∷ 14 ∷ 15 ∷ []) $ opens-record ! tt controller.the-type controller′.the-laws (x .held) (x .block) (x .offset) (λ was.
+      move ! (17 ∷ 18 ∷ 19 ∷ []) $ opens-record ! tt controller.the-type controller′.the-laws (x .held) (x .block) (x .offset) (λ was.
       move ! (1 ∷ []) $ drop ! $
-      -- [the record; the open borrow; obs; auth; the images' tokens; their last values; what is to be ensured; _4; …; _0; …]
-      sets-behind ! (of-opd ! (local-at ! 7 refl)) 13 0 refl refl (record-typed 𝓤 H A W r w is .0) $ sets ! (of-opd ! (unit-lit !)) 15 refl (tt, tt) $
+      -- [the record; the open borrow; obs; auth; the images' tokens; their last values; what is to be ensured; _6; …; _0; …]
+      sets-behind ! (of-opd ! (local-at ! 7 refl)) 17 0 refl refl (record-typed 𝓤 H A W r w is .0) $ sets ! (of-opd ! (unit-lit !)) 19 refl (tt, tt) $
       closes-record ! tt controller.the-type controller′.the-plain r _ is (x .block) (x .offset) $
-      -- [obs; the borrow; its token; the images' tokens; their last values; what is to be ensured; _4; …; _0; …]
-      returns ! (look ! 14 refl) $ frees-all ! 6 (_ ∷ _ ∷ _ ∷ _ ∷ _ ∷ []) refl $
+      -- [obs; the borrow; its token; the images' tokens; their last values; what is to be ensured; _6; …; _0; …]
+      returns ! (look ! 18 refl) $ frees-all ! 6 (_ ∷ _ ∷ _ ∷ _ ∷ _ ∷ _ ∷ _ ∷ []) refl $
       by ! (exits this 𝓤 H A W (self.clauses 𝓤 H A mem run) x g r tt _ ws (nothing-makes 𝓤 H A W) refl)))))
 
 pub lanthewg-fresh-spec : {M : Type 1} → stated.statement M

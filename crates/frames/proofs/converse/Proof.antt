@@ -1,8 +1,8 @@
 use borrow.Author.Needs.{needs}
 use native.Mathlib.Omega.{arith}
 use lib.ListN.{length}
-use mathlib.Core.Path.{_≡_, refl, _∙_}
-use Rattle.frames.proofs.Going.{Going, going-first, going-on}
+use mathlib.Core.Path.{_≡_, refl, ap, _∙_}
+use Rattle.frames.proofs.Going.{Going, lengths, going-first, going-on}
 use Rattle.frames.proofs.converse.Statement.{statement}
 use Rattle.frames.proofs.converse.Tie as tie
 use Rattle.frames.proofs.converse.Reads as reads
@@ -11,111 +11,103 @@ use Rattle.frames.proofs.feed.Reads as feed-reads
 use Rattle.frames.proofs.read_some.Reads as read-some-reads
 
 abbrev Inv-loop : tie.InvT-loop
-Inv-loop input₀ bytes₀ area₀ image0₀ image1₀ text₀ session₀ turns₀ input bytes area image0 image1 text session turns =
-    (length input ≡ length input₀) × Going bytes₀ area₀ image0₀ image1₀ text₀ bytes area image0 image1 text (session .line)
+Inv-loop input₀ bytes₀ area₀ image0₀ image1₀ image2₀ image3₀ text₀ session₀ turns₀ input bytes area image0 image1 image2 image3 text session turns =
+    (length input ≡ length input₀)
+    × Going (lengths bytes₀ area₀ image0₀ image1₀ image2₀ image3₀ text₀) (lengths bytes area image0 image1 image2 image3 text) (session .line)
 
 abbrev μ-loop : tie.MeasureT-loop
-μ-loop input₀ bytes₀ area₀ image0₀ image1₀ text₀ session₀ turns₀ input bytes area image0 image1 text session turns =
+μ-loop input₀ bytes₀ area₀ image0₀ image1₀ image2₀ image3₀ text₀ session₀ turns₀ input bytes area image0 image1 image2 image3 text session turns =
     turns
 
--- src/main.rt:85:5
 loop-holds : tie.Need-loop-holds Inv-loop μ-loop
-loop-holds c = (refl, going-first _ _ _ _ _ _ (c .before .before .before .before .before .before .pre))
+loop-holds c = (refl, going-first (c .before .before .before .before .before .before .before .before .pre))
 
--- src/main.rt:86:13
 read-some-requires : tie.Need-read-some-requires Inv-loop μ-loop
 read-some-requires c κs = tt
 
--- src/main.rt:88:13
 same-length : tie.Need-same-length Inv-loop μ-loop
 same-length c = search needs
 
--- src/main.rt:88:13
 same-length-2 : tie.Need-same-length-2 Inv-loop μ-loop
-same-length-2 c = c .before .before .before .before .before .before .loop .inv .1 .bytes-long
+same-length-2 c = ap (λ l. l .bytes) (c .before .before .before .before .before .before .loop .inv .1 .same)
 
--- src/main.rt:88:13
 same-length-3 : tie.Need-same-length-3 Inv-loop μ-loop
-same-length-3 c = c .before .before .before .before .before .before .loop .inv .1 .area-long
+same-length-3 c = ap (λ l. l .area) (c .before .before .before .before .before .before .loop .inv .1 .same)
 
--- src/main.rt:88:13
 same-length-4 : tie.Need-same-length-4 Inv-loop μ-loop
-same-length-4 c = c .before .before .before .before .before .before .loop .inv .1 .image0-long
+same-length-4 c = ap (λ l. l .image0) (c .before .before .before .before .before .before .loop .inv .1 .same)
 
--- src/main.rt:88:13
 same-length-5 : tie.Need-same-length-5 Inv-loop μ-loop
-same-length-5 c = c .before .before .before .before .before .before .loop .inv .1 .image1-long
+same-length-5 c = ap (λ l. l .image1) (c .before .before .before .before .before .before .loop .inv .1 .same)
 
--- src/main.rt:88:13
 same-length-6 : tie.Need-same-length-6 Inv-loop μ-loop
-same-length-6 c = c .before .before .before .before .before .before .loop .inv .1 .text-long
+same-length-6 c = ap (λ l. l .image2) (c .before .before .before .before .before .before .loop .inv .1 .same)
 
--- src/main.rt:88:13
+same-length-7 : tie.Need-same-length-7 Inv-loop μ-loop
+same-length-7 c = ap (λ l. l .image3) (c .before .before .before .before .before .before .loop .inv .1 .same)
+
+same-length-8 : tie.Need-same-length-8 Inv-loop μ-loop
+same-length-8 c = ap (λ l. l .text) (c .before .before .before .before .before .before .loop .inv .1 .same)
+
 returns : tie.Need-returns Inv-loop μ-loop
 returns c = c .before .before .before .before .before .before .loop .inv .1 .line-fits
 
--- src/main.rt:90:33
 sub-feed : tie.Need-sub-feed Inv-loop μ-loop
 sub-feed c = search needs
 
--- src/main.rt:90:33
 part-feed-start : tie.Need-part-feed-start Inv-loop μ-loop
 part-feed-start c = search needs
 
--- src/main.rt:90:33
 part-feed-end : tie.Need-part-feed-end Inv-loop μ-loop
 part-feed-end c = search needs
 
--- src/main.rt:90:9
 feed-requires : tie.Need-feed-requires Inv-loop μ-loop
 feed-requires c κs =
-    let g = c .before .before .before .before .before .before .before .before .before .before .before .before .before .loop .inv .1 in
+    let g = c .before .before .before .before .before .before .before .before .before .before .before .before .before .before .before .loop .inv .1 in
     (g .text-room, g .line-fits .0, g .line-fits .1)
 
--- src/main.rt:91:9
 sub-turns : tie.Need-sub-turns Inv-loop μ-loop
 sub-turns c = search needs
 
--- src/main.rt:85:5
 loop-less : tie.Need-loop-less Inv-loop μ-loop
 loop-less c = omega arith
 
--- src/main.rt:85:5
 loop-again : tie.Need-loop-again Inv-loop μ-loop
 loop-again c =
-    let fed = c .before .before .before .before .before .before .before .before .before .before in
-    let got = fed .before .before .before .before .before .before .before .before .before .before .before in
+    let fed = c .before .before .before .before .before .before .before .before .before .before .before .before .before .before in
+    let got = fed .before .before .before .before .before .before .before .before .before .before .before .before .before in
     let inv = got .before .before .before .loop .inv in
     let k = fed .feed .kept .1 .1 in (
       got .read-some .kept .0 ∙ inv .0,
-      going-on (inv .1) _ _ _ _ _ _ (k .0) (k .1 .0) (k .1 .1 .0) (k .1 .1 .1 .0) (k .1 .1 .1 .1 .0) (fed .feed .ensures),
+      going-on (inv .1)
+          (rw (k .0, k .1 .0, k .1 .1 .0, k .1 .1 .1 .0, k .1 .1 .1 .1 .0, k .1 .1 .1 .1 .1 .0, k .1 .1 .1 .1 .1 .1 .0))
+          (fed .feed .ensures),
     )
 
--- src/main.rt:79:1
-same-length-7 : tie.Need-same-length-7 Inv-loop μ-loop
-same-length-7 c = c .before .loop .inv .0
-
--- src/main.rt:79:1
-same-length-8 : tie.Need-same-length-8 Inv-loop μ-loop
-same-length-8 c = c .before .loop .inv .1 .bytes-long
-
--- src/main.rt:79:1
 same-length-9 : tie.Need-same-length-9 Inv-loop μ-loop
-same-length-9 c = c .before .loop .inv .1 .area-long
+same-length-9 c = c .before .loop .inv .0
 
--- src/main.rt:79:1
 same-length-10 : tie.Need-same-length-10 Inv-loop μ-loop
-same-length-10 c = c .before .loop .inv .1 .image0-long
+same-length-10 c = ap (λ l. l .bytes) (c .before .loop .inv .1 .same)
 
--- src/main.rt:79:1
 same-length-11 : tie.Need-same-length-11 Inv-loop μ-loop
-same-length-11 c = c .before .loop .inv .1 .image1-long
+same-length-11 c = ap (λ l. l .area) (c .before .loop .inv .1 .same)
 
--- src/main.rt:79:1
 same-length-12 : tie.Need-same-length-12 Inv-loop μ-loop
-same-length-12 c = c .before .loop .inv .1 .text-long
+same-length-12 c = ap (λ l. l .image0) (c .before .loop .inv .1 .same)
 
--- src/main.rt:79:1
+same-length-13 : tie.Need-same-length-13 Inv-loop μ-loop
+same-length-13 c = ap (λ l. l .image1) (c .before .loop .inv .1 .same)
+
+same-length-14 : tie.Need-same-length-14 Inv-loop μ-loop
+same-length-14 c = ap (λ l. l .image2) (c .before .loop .inv .1 .same)
+
+same-length-15 : tie.Need-same-length-15 Inv-loop μ-loop
+same-length-15 c = ap (λ l. l .image3) (c .before .loop .inv .1 .same)
+
+same-length-16 : tie.Need-same-length-16 Inv-loop μ-loop
+same-length-16 c = ap (λ l. l .text) (c .before .loop .inv .1 .same)
+
 returns-2 : tie.Need-returns-2 Inv-loop μ-loop
 returns-2 c = c .before .loop .inv .1 .line-fits
 
@@ -133,6 +125,8 @@ converse-spec =
     same-length-4
     same-length-5
     same-length-6
+    same-length-7
+    same-length-8
     returns
     sub-feed
     part-feed-start
@@ -141,10 +135,12 @@ converse-spec =
     sub-turns
     loop-less
     loop-again
-    same-length-7
-    same-length-8
     same-length-9
     same-length-10
     same-length-11
     same-length-12
+    same-length-13
+    same-length-14
+    same-length-15
+    same-length-16
     returns-2)

@@ -5,15 +5,12 @@ use Rattle.frames.proofs.is_begun.Tie as tie
 use Rattle.frames.proofs.is_begun.Reads as reads
 use Rattle.frames.proofs.is_begun.Lts as lts
 
--- src/main.rt:83:9
 returns : tie.Need-returns
 returns c = search needs
 
--- src/main.rt:86:9
 returns-2 : tie.Need-returns-2
 returns-2 c = search needs
 
--- src/main.rt:79:1
 returns-3 : tie.Need-returns-3
 returns-3 c = third _ _ _ (c .before .before .if1 .left) (c .before .if2 .left)
 

@@ -11,85 +11,83 @@ use Rattle.frames.proofs.is_begun.Reads as is-begun-reads
 use Rattle.frames.proofs.say.Reads as say-reads
 use Rattle.hex.proofs.line.start.Reads as start-reads
 
--- src/main.rt:104:27
 slice-aggregate-fresh : tie.Need-slice-aggregate-fresh
 slice-aggregate-fresh c = search needs
 
--- src/main.rt:104:36
 slice-aggregate-fresh-2 : tie.Need-slice-aggregate-fresh-2
 slice-aggregate-fresh-2 c = search needs
 
--- src/main.rt:104:21
+slice-aggregate-fresh-3 : tie.Need-slice-aggregate-fresh-3
+slice-aggregate-fresh-3 c = search needs
+
+slice-aggregate-fresh-4 : tie.Need-slice-aggregate-fresh-4
+slice-aggregate-fresh-4 c = search needs
+
 fresh-requires : tie.Need-fresh-requires
 fresh-requires c κs = search needs
 
--- src/main.rt:105:15
 start-requires : tie.Need-start-requires
 start-requires c κs = search needs
 
--- src/main.rt:107:32
 slice-aggregate-converse : tie.Need-slice-aggregate-converse
 slice-aggregate-converse c = search needs
 
--- src/main.rt:107:44
 slice-aggregate-converse-2 : tie.Need-slice-aggregate-converse-2
 slice-aggregate-converse-2 c = search needs
 
--- src/main.rt:107:56
 slice-aggregate-converse-3 : tie.Need-slice-aggregate-converse-3
 slice-aggregate-converse-3 c = search needs
 
--- src/main.rt:107:67
 slice-aggregate-converse-4 : tie.Need-slice-aggregate-converse-4
 slice-aggregate-converse-4 c = search needs
 
--- src/main.rt:107:80
 slice-aggregate-converse-5 : tie.Need-slice-aggregate-converse-5
 slice-aggregate-converse-5 c = search needs
 
--- src/main.rt:107:93
 slice-aggregate-converse-6 : tie.Need-slice-aggregate-converse-6
 slice-aggregate-converse-6 c = search needs
 
--- src/main.rt:107:9
+slice-aggregate-converse-7 : tie.Need-slice-aggregate-converse-7
+slice-aggregate-converse-7 c = search needs
+
+slice-aggregate-converse-8 : tie.Need-slice-aggregate-converse-8
+slice-aggregate-converse-8 c = search needs
+
 converse-requires : tie.Need-converse-requires
 converse-requires c κs =
-    let e = c .before .before .before .before .before .before .start .ensures in
+    let e = c .before .before .before .before .before .before .before .before .start .ensures in
     omega (arith, ap (λ l. l .high) e, ap (λ l. l .count) e)
 
--- src/main.rt:111:8
 is-begun-requires : tie.Need-is-begun-requires
 is-begun-requires c κs = search needs
 
--- src/main.rt:112:31
 slice-aggregate-say : tie.Need-slice-aggregate-say
 slice-aggregate-say c = search needs
 
--- src/main.rt:112:39
 slice-aggregate-say-2 : tie.Need-slice-aggregate-say-2
 slice-aggregate-say-2 c = search needs
 
--- src/main.rt:112:50
 slice-aggregate-say-3 : tie.Need-slice-aggregate-say-3
 slice-aggregate-say-3 c = search needs
 
--- src/main.rt:112:63
 slice-aggregate-say-4 : tie.Need-slice-aggregate-say-4
 slice-aggregate-say-4 c = search needs
 
--- src/main.rt:112:76
 slice-aggregate-say-5 : tie.Need-slice-aggregate-say-5
 slice-aggregate-say-5 c = search needs
 
--- src/main.rt:112:9
+slice-aggregate-say-6 : tie.Need-slice-aggregate-say-6
+slice-aggregate-say-6 c = search needs
+
+slice-aggregate-say-7 : tie.Need-slice-aggregate-say-7
+slice-aggregate-say-7 c = search needs
+
 say-requires : tie.Need-say-requires
 say-requires c κs = search needs
 
--- src/main.rt:96:1
 returns : tie.Need-returns
 returns c = search needs
 
--- src/main.rt:96:1
 returns-2 : tie.Need-returns-2
 returns-2 c = search needs
 
@@ -99,6 +97,8 @@ main-spec =
     (tie.spec
     slice-aggregate-fresh
     slice-aggregate-fresh-2
+    slice-aggregate-fresh-3
+    slice-aggregate-fresh-4
     fresh-requires
     start-requires
     slice-aggregate-converse
@@ -107,6 +107,8 @@ main-spec =
     slice-aggregate-converse-4
     slice-aggregate-converse-5
     slice-aggregate-converse-6
+    slice-aggregate-converse-7
+    slice-aggregate-converse-8
     converse-requires
     is-begun-requires
     slice-aggregate-say
@@ -114,6 +116,8 @@ main-spec =
     slice-aggregate-say-3
     slice-aggregate-say-4
     slice-aggregate-say-5
+    slice-aggregate-say-6
+    slice-aggregate-say-7
     say-requires
     returns
     returns-2)

@@ -7,23 +7,18 @@ use Rattle.lines.proofs.answer_bad.Tie as tie
 use Rattle.lines.proofs.answer_bad.Reads as reads
 use Rattle.lines.proofs.answer_bad.Lts as lts
 
--- src/lib.rt:94:5
 slice-write-text : tie.Need-slice-write-text
 slice-write-text c = search needs
 
--- src/lib.rt:95:5
 slice-write-text-2 : tie.Need-slice-write-text-2
 slice-write-text-2 c = simp length-set (search needs)
 
--- src/lib.rt:96:5
 slice-write-text-3 : tie.Need-slice-write-text-3
 slice-write-text-3 c = search needs
 
--- src/lib.rt:89:1
 same-length : tie.Need-same-length
 same-length c = search needs
 
--- src/lib.rt:89:1
 returns : tie.Need-returns
 returns c = let written = bad-written (c .args .text .now) (c .pre) in (written .0, (refl, written .1))
 

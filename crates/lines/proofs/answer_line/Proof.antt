@@ -1,4 +1,5 @@
 use borrow.Author.Needs.{needs}
+use Rattle.model.specs.Engine.{imagesOf}
 use Rattle.lines.specs.Said.{saidNow}
 use Rattle.lines.proofs.Frames.{bad-answered, half-answered, line-reset, line-frame}
 use Rattle.lines.proofs.answer_line.Statement.{statement}
@@ -10,129 +11,118 @@ use Rattle.lines.proofs.answer_frame.Reads as answer-frame-reads
 use Rattle.lines.proofs.answer_reset.Reads as answer-reset-reads
 use Rattle.lines.proofs.is_reset.Reads as is-reset-reads
 
--- src/lib.rt:111:9
 answer-bad-requires : tie.Need-answer-bad-requires
 answer-bad-requires c κs = search needs
 
--- src/lib.rt:111:9
 same-length : tie.Need-same-length
 same-length c = search needs
 
--- src/lib.rt:111:9
 returns : tie.Need-returns
 returns c =
     let answered = c .before .before .answer-bad in
     let tested = c .before .before .before .before in
-    let start = tested .before .before .before .before .before .before in (
+    let start = tested .before .before .before .before .before .before .before .before in (
       answered .ensures .0,
-      bad-answered _ (start .args .line) _ _ _ _ (answered .result) (answered .last .1 .0) (answered .ensures .1) (tested .if1 .taken),
+      bad-answered _ (start .args .line) _ _ _ (answered .result) (answered .last .1 .0) (answered .ensures .1) (tested .if1 .taken),
     )
 
--- src/lib.rt:114:9
 answer-bad-requires-2 : tie.Need-answer-bad-requires-2
 answer-bad-requires-2 c κs = search needs
 
--- src/lib.rt:114:9
 same-length-2 : tie.Need-same-length-2
 same-length-2 c = search needs
 
--- src/lib.rt:114:9
 returns-2 : tie.Need-returns-2
 returns-2 c =
     let answered = c .before .before .answer-bad2 in
     let tested = c .before .before .before .before in
-    let start = tested .before .before .before .before .before .before .before in (
+    let start = tested .before .before .before .before .before .before .before .before .before in (
       answered .ensures .0,
-      half-answered _ (start .args .line) _ _ _ _ (answered .result) (answered .last .1 .0) (answered .ensures .1) (tested .if2 .taken),
+      half-answered _ (start .args .line) _ _ _ (answered .result) (answered .last .1 .0) (answered .ensures .1) (tested .if2 .taken),
     )
 
--- src/lib.rt:116:17
 sub-is-reset : tie.Need-sub-is-reset
 sub-is-reset c = search needs
 
--- src/lib.rt:116:17
 part-is-reset-start : tie.Need-part-is-reset-start
 part-is-reset-start c = search needs
 
--- src/lib.rt:116:17
 part-is-reset-end : tie.Need-part-is-reset-end
 part-is-reset-end c = search needs
 
--- src/lib.rt:116:8
 is-reset-requires : tie.Need-is-reset-requires
 is-reset-requires c κs = search needs
 
--- src/lib.rt:117:9
 answer-reset-requires : tie.Need-answer-reset-requires
 answer-reset-requires c κs = search needs
 
--- src/lib.rt:117:9
 same-length-3 : tie.Need-same-length-3
 same-length-3 c = search needs
 
--- src/lib.rt:117:9
 same-length-4 : tie.Need-same-length-4
 same-length-4 c = search needs
 
--- src/lib.rt:117:9
 same-length-5 : tie.Need-same-length-5
 same-length-5 c = search needs
 
--- src/lib.rt:117:9
-returns-3 : tie.Need-returns-3
-returns-3 c =
-    let answered = c .before .before .answer-reset .ensures in
-    let tested = c .before .before .before .before .before .before in
-    let whole = tested .before .before .before in
-    let start = whole .before .before .before .before .before .before .before in (
-      answered .0,
-      line-reset _ (start .args .line) (start .args .bytes .now) _ _ _ _ (whole .before .if1 .left) (whole .if2 .left)
-          _ (tested .before .is-reset .ensures) (tested .if3 .taken) (answered .1),
-    )
-
--- src/lib.rt:119:21
-sub-answer-frame : tie.Need-sub-answer-frame
-sub-answer-frame c = search needs
-
--- src/lib.rt:119:21
-part-answer-frame-start : tie.Need-part-answer-frame-start
-part-answer-frame-start c = search needs
-
--- src/lib.rt:119:21
-part-answer-frame-end : tie.Need-part-answer-frame-end
-part-answer-frame-end c = search needs
-
--- src/lib.rt:119:5
-answer-frame-requires : tie.Need-answer-frame-requires
-answer-frame-requires c κs = search needs
-
--- src/lib.rt:104:1
 same-length-6 : tie.Need-same-length-6
 same-length-6 c = search needs
 
--- src/lib.rt:104:1
 same-length-7 : tie.Need-same-length-7
 same-length-7 c = search needs
 
--- src/lib.rt:104:1
+returns-3 : tie.Need-returns-3
+returns-3 c =
+    let answered = c .before .before .answer-reset .ensures in
+    let tested = c .before .before .before .before .before .before .before .before in
+    let whole = tested .before .before .before in
+    let start = whole .before .before .before .before .before .before .before .before .before in (
+      answered .0,
+      line-reset _ (start .args .line) (start .args .bytes .now) _ _ _ (whole .before .if1 .left) (whole .if2 .left)
+          _ (tested .before .is-reset .ensures) (tested .if3 .taken) (answered .1),
+    )
+
+sub-answer-frame : tie.Need-sub-answer-frame
+sub-answer-frame c = search needs
+
+part-answer-frame-start : tie.Need-part-answer-frame-start
+part-answer-frame-start c = search needs
+
+part-answer-frame-end : tie.Need-part-answer-frame-end
+part-answer-frame-end c = search needs
+
+answer-frame-requires : tie.Need-answer-frame-requires
+answer-frame-requires c κs = search needs
+
 same-length-8 : tie.Need-same-length-8
 same-length-8 c = search needs
 
--- src/lib.rt:104:1
 same-length-9 : tie.Need-same-length-9
 same-length-9 c = search needs
 
--- src/lib.rt:104:1
+same-length-10 : tie.Need-same-length-10
+same-length-10 c = search needs
+
+same-length-11 : tie.Need-same-length-11
+same-length-11 c = search needs
+
+same-length-12 : tie.Need-same-length-12
+same-length-12 c = search needs
+
+same-length-13 : tie.Need-same-length-13
+same-length-13 c = search needs
+
 returns-4 : tie.Need-returns-4
 returns-4 c =
-    let answered = c .before .before .before .before .before .before .before .before in
+    let answered = c .before .before .before .before .before .before .before .before .before .before .before .before in
     let left = answered .answer-frame .last .1 .1 .1 in
-    let said = saidNow (answered .answer-frame .result) (left .1 .1 .0) (left .0) (left .1 .0) in
-    let tested = answered .before .before .before .before .before .before in
+    let images = imagesOf (left .0) (left .1 .0) (left .1 .1 .0) (left .1 .1 .1 .0) in
+    let said = saidNow (answered .answer-frame .result) (left .1 .1 .1 .1 .0) images in
+    let tested = answered .before .before .before .before .before .before .before .before in
     let whole = tested .before .before .before in
-    let start = whole .before .before .before .before .before .before .before in (
+    let start = whole .before .before .before .before .before .before .before .before .before in (
       answered .answer-frame .ensures .0,
-      line-frame _ (start .args .line) (start .args .bytes .now) _ _ _ said (whole .before .if1 .left) (whole .if2 .left)
+      line-frame _ (start .args .line) (start .args .bytes .now) _ _ said (whole .before .if1 .left) (whole .if2 .left)
           _ (tested .before .is-reset .ensures) (tested .if3 .left) (answered .answer-frame .ensures .1),
     )
 
@@ -154,13 +144,17 @@ answer-line-spec =
     same-length-3
     same-length-4
     same-length-5
+    same-length-6
+    same-length-7
     returns-3
     sub-answer-frame
     part-answer-frame-start
     part-answer-frame-end
     answer-frame-requires
-    same-length-6
-    same-length-7
     same-length-8
     same-length-9
+    same-length-10
+    same-length-11
+    same-length-12
+    same-length-13
     returns-4)

@@ -7,36 +7,29 @@ use Rattle.lines.proofs.answer_reset.Lts as lts
 use Rattle.engine.proofs.reset.reset.Reads as reset-reads
 use Rattle.lines.proofs.tell.Reads as tell-reads
 
--- src/lib.rt:79:9
 reset-requires : tie.Need-reset-requires
 reset-requires c κs = search needs
 
--- src/lib.rt:84:36
 sub-tell : tie.Need-sub-tell
 sub-tell c = search needs
 
--- src/lib.rt:84:36
 part-tell-start : tie.Need-part-tell-start
 part-tell-start c = search needs
 
--- src/lib.rt:84:36
 part-tell-end : tie.Need-part-tell-end
 part-tell-end c = search needs
 
--- src/lib.rt:84:17
 tell-requires : tie.Need-tell-requires
 tell-requires c κs = search needs
 
--- src/lib.rt:74:1
 same-length : tie.Need-same-length
 same-length c = search needs
 
--- src/lib.rt:74:1
 returns : tie.Need-returns
 returns c =
     let done = c .before .before .before .before .before .before .before in
-    let start = done .before .before .before .before in
-    reset-answered _ _ _ _ _ _ (start .pre) (done .reset .ensures) (c .before .before .tell .ensures)
+    let start = done .before .before .before .before .before .before in
+    reset-answered _ _ _ _ _ (start .pre) (done .reset .ensures) (c .before .before .tell .ensures)
 
 pub answer-reset-spec : {M : Type 1} → statement M
 answer-reset-spec =

@@ -5,15 +5,12 @@ use Rattle.lines.proofs.is_reset.Tie as tie
 use Rattle.lines.proofs.is_reset.Reads as reads
 use Rattle.lines.proofs.is_reset.Lts as lts
 
--- src/lib.rt:44:9
 returns : tie.Need-returns
 returns c = reset-longer _ (c .if1 .taken)
 
--- src/lib.rt:46:5
 shared-slice-read-result : tie.Need-shared-slice-read-result
 shared-slice-read-result c = search needs
 
--- src/lib.rt:40:1
 returns-2 : tie.Need-returns-2
 returns-2 c = reset-one _ (c .before .if1 .left)
 

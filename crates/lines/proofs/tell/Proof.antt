@@ -7,42 +7,33 @@ use Rattle.lines.proofs.tell.Reads as reads
 use Rattle.lines.proofs.tell.Lts as lts
 use Rattle.hex.proofs.text.encode.Reads as encode-reads
 
--- src/lib.rt:32:21
 slice-aggregate-encode : tie.Need-slice-aggregate-encode
 slice-aggregate-encode c = search needs
 
--- src/lib.rt:32:5
 encode-requires : tie.Need-encode-requires
 encode-requires c κs = search needs
 
--- src/lib.rt:33:5
 encode-requires-2 : tie.Need-encode-requires-2
 encode-requires-2 c κs = search needs
 
--- src/lib.rt:34:19
 mul-end : tie.Need-mul-end
 mul-end c = search needs
 
--- src/lib.rt:34:15
 add-end : tie.Need-add-end
 add-end c = search needs
 
--- src/lib.rt:35:5
 slice-write-text : tie.Need-slice-write-text
 slice-write-text c = search needs
 
--- src/lib.rt:36:5
 add-result : tie.Need-add-result
 add-result c = search needs
 
--- src/lib.rt:27:1
 same-length : tie.Need-same-length
 same-length c =
     let first = c .before .before .before .before .before .before in
     let start = first .before .before .before .before .before in
     tell-length (start .args .answer) (start .args .handed .now) _ (start .pre) _ _ (first .encode .ensures) (c .before .before .encode2 .ensures)
 
--- src/lib.rt:27:1
 returns : tie.Need-returns
 returns c =
     let first = c .before .before .before .before .before .before in

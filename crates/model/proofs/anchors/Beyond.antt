@@ -2,18 +2,19 @@
 -- Format Drive changes the label.
 use Prim.Native.Nat.{ℕ, zero, suc, _≤_, _<_}
 use mathlib.Core.Path.{_≡_, refl, ap, subst, _∙_}
-use mathlib.Core.Bool.{Bool, true, false}
 use mathlib.Core.List.{List, _++_}
 use native.Mathlib.Omega.{arith}
 use lib.ListN.{length}
 use borrow.Author.Tests.{ltb-false}
-use Rattle.base.specs.Pick.{pick}
+use Rattle.base.proofs.Decide.{pick-both}
 use Rattle.base.specs.Part.{part}
 use Rattle.geometry.specs.declared.params.Lba.{Lba}
 use Rattle.geometry.specs.declared.params.Params.{Params}
+use Rattle.geometry.specs.declared.medium.Medium.{Medium}
 use Rattle.geometry.specs.declared.config.Setting.{Setting}
 use Rattle.geometry.specs.declared.config.Setting.the-variants.{Valid, Invalid}
 use Rattle.geometry.specs.Params.{Within, trackCount, imageLength, trackOf, lastAddress}
+use Rattle.geometry.specs.Medium.{mediumOf}
 use Rattle.geometry.specs.Config.{settingOf, labelRest}
 use Rattle.geometry.proofs.Settings.{setting-within, setting-ten}
 use Rattle.geometry.proofs.Sizes.{sectors-some}
@@ -63,14 +64,9 @@ unless-left P (Faulty code at) b c image e old new = old
 unless-left P Passed b c image e old new = new refl
 
 -- ---- Transfers
-picked-image : (t : Bool) (x y : Effect) (image : List ℕ) → x .image ≡ image → y .image ≡ image → pick t x y .image ≡ image
-unfolding pick
-picked-image true x y image hx hy = hx
-picked-image false x y image hx hy = hy
-
 transferred-image : (b : Block) (c : Controller) (x : Transfer) → transferred b c x .image ≡ x .image
 unfolding transferred good failed
-transferred-image b c x = picked-image _ _ _ (x .image) refl refl
+transferred-image b c x = pick-both (λ (e : Effect). e .image ≡ x .image) _ _ _ refl refl
 
 pub initialized-image : (s : Setting) (b : Block) (config : List ℕ) (c : Controller) (image : List ℕ)
     → initializedBy s b config c image .image ≡ image
@@ -86,29 +82,32 @@ second-in p first a alternate stateA stateB e = let t = passed-on _ _ _ _ _ e in
 
 -- ---- A command whose checks have passed
 module _ (b : Block) (given : List ℕ) (area : ℕ) (c : Controller) (image : List ℕ)
-    (passed : judge b (viewOf (driveAt c (b .drive)) (length image)) (length given) area ≡ Passed) where
+    (passed : judge b (viewOf (mediumOf (b .drive)) (driveAt c (b .drive)) (length image)) (length given) area ≡ Passed) where
+  abbrev medium : Medium
+  medium = mediumOf (b .drive)
+
   abbrev entry : Drive
   entry = driveAt c (b .drive)
 
-  module _ (p : Params) (valid : settingIn entry (length image) ≡ Valid p) where
-    setting : settingOf (entry .config) (length image) ≡ Valid p
-    setting = setting-known entry (length image) p valid
+  module _ (p : Params) (valid : settingIn medium entry (length image) ≡ Valid p) where
+    setting : settingOf medium (entry .config) (length image) ≡ Valid p
+    setting = setting-known medium entry (length image) p valid
 
     w : Within p
-    w = setting-within _ _ p setting .0
+    w = setting-within medium _ _ p setting .0
 
     fits : imageLength p ≤ length image
-    fits = setting-within _ _ p setting .1
+    fits = setting-within medium _ _ p setting .1
 
     ten : length (entry .config) ≡ 10
-    ten = setting-ten _ _ p setting
+    ten = setting-ten medium _ _ p setting
 
     clear : (command : Command) → entryOf (b .opcode) .command ≡ command → Cleared (entryOf (opcodeFor command)) b p (entry .pending) (length given)
     unfolding viewOf
     clear command is =
         subst (λ (r : Entry). Cleared r b p (entry .pending) (length given))
         (row-of (b .opcode) ∙ ap (λ (k : Command). entryOf (opcodeFor k)) is)
-        (cleared b (viewOf entry (length image)) (length given) area passed p valid)
+        (cleared b (viewOf medium entry (length image)) (length given) area passed p valid)
 
     -- the image that Format Drive makes
     module _ (is : entryOf (b .opcode) .command ≡ FormatDrive) where
@@ -117,13 +116,13 @@ module _ (b : Block) (given : List ℕ) (area : ℕ) (c : Controller) (image : L
       format-in = track-cleared w (clear FormatDrive is) refl refl
 
       abbrev made : List ℕ
-      made = driveFormatted b p (entry .config) (fillOf b p c) image
+      made = driveFormatted b p (entry .config) (fillOf b p (c .buffer)) image
 
       format-outside : (low : ℕ) → low ≡ 0 → Outside low (Valid p) image made
-      format-outside low none = drive-outside low (omega arith) b p w image fits _ _ ten (fill-most b p c) format-in none
+      format-outside low none = drive-outside low (omega arith) b p w image fits _ _ ten (fill-most b p (c .buffer)) format-in none
 
       pub format-label : (length made ≡ length image) × (part 0 16 made ≡ entry .config ++ labelRest)
-      format-label = (format-outside 0 refl .len, drive-label b p w image fits _ _ ten (fill-most b p c) format-in)
+      format-label = (format-outside 0 refl .len, drive-label b p w image fits _ _ ten (fill-most b p (c .buffer)) format-in)
 
   -- by cases; `low` is at most 16, and 0 for Format Drive
   module _ (low : ℕ) (front : low ≤ 16) (free : entryOf (b .opcode) .command ≡ FormatDrive → low ≡ 0) where
@@ -143,7 +142,7 @@ module _ (b : Block) (given : List ℕ) (area : ℕ) (c : Controller) (image : L
     own p v e = unless-left (Leaves (Valid p)) v b c image e (outside-self low (Valid p) image)
 
     carried-outside : (command : Command) → entryOf (b .opcode) .command ≡ command
-        → let s = settingIn entry (length image) in Leaves s (carryOut b s given c image command .image)
+        → let s = settingIn medium entry (length image) in Leaves s (carryOut b s given c image command .image)
     unfolding carryOut requestSense formatDrive checkTrack formatTrack read write assignAlternate initialize entryOf opcodeFor
         bytesOf sizeIn good failed begun
     carried-outside TestReady is = outside-self low _ image
@@ -153,10 +152,10 @@ module _ (b : Block) (given : List ℕ) (area : ℕ) (c : Controller) (image : L
     carried-outside CheckTrack is = disk _ _ (λ p e. own p _ _ (λ ok. outside-self low _ image))
     carried-outside FormatTrack is =
         disk _ _ (λ p e. own p _ _ (λ ok.
-        made-outside low front b p (w p e) image (fits p e) _ _ _ (track-cleared (w p e) (clear p e FormatTrack is) refl refl) (fill-most b p c)))
+        made-outside low front b p (w p e) image (fits p e) _ _ _ (track-cleared (w p e) (clear p e FormatTrack is) refl refl) (fill-most b p (c .buffer))))
     carried-outside FormatBadTrack is =
         disk _ _ (λ p e. own p _ _ (λ ok.
-        made-outside low front b p (w p e) image (fits p e) _ _ _ (track-cleared (w p e) (clear p e FormatBadTrack is) refl refl) (plain-most p)))
+        made-outside low front b p (w p e) image (fits p e) _ _ _ (track-cleared (w p e) (clear p e FormatBadTrack is) refl refl) (plain-most medium p)))
     carried-outside Read is =
         disk _ _ (λ p e. same _ _ (transferred-image b c _ ∙ read-image (countOf b) (b .address .0) p (begun image)))
     carried-outside Write is =
@@ -169,7 +168,7 @@ module _ (b : Block) (given : List ℕ) (area : ℕ) (c : Controller) (image : L
         disk _ _ (λ p e. own p _ _ (λ ok.
         assigned-outside low front b p (w p e) image (fits p e) _ _ _ (track-cleared (w p e) (clear p e AssignAlternate is) refl refl)
         (track-in p (w p e) (alternateOf given) (omega (arith, sectors-some p (w p e), second-in p _ _ (alternateOf given) _ _ ok)))
-        (fill-most b p c)))
+        (fill-most b p (c .buffer))))
     carried-outside WriteBuffer is = outside-self low _ image
     carried-outside ReadBuffer is = outside-self low _ image
     carried-outside Initialize is = same _ _ (initialized-image _ b _ c image)
@@ -178,8 +177,8 @@ module _ (b : Block) (given : List ℕ) (area : ℕ) (c : Controller) (image : L
 -- ---- Any command, on any image
 pub outside-kept : (b : Block) (given : List ℕ) (area : ℕ) (c : Controller) (image : List ℕ)
     → (low : ℕ) → low ≤ 16 → (entryOf (b .opcode) .command ≡ FormatDrive → low ≡ 0)
-    → Outside low (settingIn (driveAt c (b .drive)) (length image)) image (obey b given area c image .image)
+    → Outside low (settingIn (mediumOf (b .drive)) (driveAt c (b .drive)) (length image)) image (obey b given area c image .image)
 unfolding obey
 outside-kept b given area c image low front free =
-    unless-left (Outside low (settingIn (driveAt c (b .drive)) (length image)) image) _ b c image _ (outside-self low _ image)
+    unless-left (Outside low (settingIn (mediumOf (b .drive)) (driveAt c (b .drive)) (length image)) image) _ b c image _ (outside-self low _ image)
     (λ passed. carried-outside b given area c image passed low front free (entryOf (b .opcode) .command) refl)

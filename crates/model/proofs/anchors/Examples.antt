@@ -10,10 +10,12 @@ use Rattle.base.specs.First.{firstFrom, firstBelow, isSome, someBelow}
 use Rattle.geometry.specs.declared.params.Lba.{Lba}
 use Rattle.geometry.specs.declared.params.Track.{Track}
 use Rattle.geometry.specs.declared.params.Params.{Params}
+use Rattle.geometry.specs.declared.medium.Medium.the-variants.{HardDisk}
 use Rattle.geometry.specs.declared.config.Setting.{Setting}
 use Rattle.geometry.specs.declared.config.Setting.the-variants.{Valid, Invalid}
 use Rattle.geometry.specs.Params.{imageLength, trackCount, trackOf, cylinderOf, headOf, sectorOf}
-use Rattle.geometry.specs.Config.{sizeFor, fittedTo, settingBy, settingOf, isValid}
+use Rattle.geometry.specs.Medium.{mediumOf, isFloppy, isIn, rangesOf}
+use Rattle.geometry.specs.Config.{sizeFor, fittedTo, fieldsIn, settingBy, settingOf, isValid}
 use Rattle.interleave.specs.Layout.{emptyFrom, put, place, laid, layoutOf}
 use Rattle.track.specs.declared.id.State.the-variants.{Moved, Taken}
 use Rattle.track.specs.Id.{track, flagOf, partnerOf, idBytes, idIn, idFor, ownId}
@@ -25,12 +27,12 @@ use Rattle.model.specs.declared.record.Controller.{Controller}
 use Rattle.model.specs.declared.verdict.Verdict.the-variants.{Faulty, Passed}
 use Rattle.model.specs.Block.{blockOf, countOf}
 use Rattle.model.specs.Table.{entryOf}
-use Rattle.model.specs.Checks.{View, judged, presentWith, controlWrong, reach, testsWith, tests, sizeIn, bytesOf, lengthsWith, judge}
+use Rattle.model.specs.Checks.{View, judged, presentWith, controlWrong, lacks, reach, testsWith, tests, sizeIn, bytesOf, lengthsWith, judge}
 use Rattle.model.specs.Sense.{addressed, senseOf}
 use Rattle.model.specs.Record.{blankDrive, driveAt, withDrive, sensed, withSense, settingIn}
 use Rattle.model.specs.Record.{bareOutcome, failedOutcome, goodOutcome, Effect, failed, good, unless}
-use Rattle.model.specs.Commands.{requestSense, plainFill, madeAt, assigned, settled, formatDrive, carryOut}
-use Rattle.model.specs.Engine.{viewOf, obey, Result, imageOf, left, execute}
+use Rattle.model.specs.Commands.{requestSense, plainByte, plainFill, madeAt, assigned, settled, formatDrive, carryOut}
+use Rattle.model.specs.Engine.{viewOf, obey, Result, imagesOf, imageOf, left, execute}
 use Rattle.model.specs.Machine.{Kind, freshDisk, becomes, filled, assignTo, parted, partedBy, someParted}
 
 -- sector s of a track of n, interleave f, is in slot k
@@ -47,11 +49,11 @@ lengthOf Invalid = 0
 lengthOf (Valid p) = imageLength p
 
 lengthFor : List ℕ → ℕ
-lengthFor c = lengthOf (settingOf c 100000000)
+lengthFor c = lengthOf (settingOf HardDisk c 100000000)
 
 -- a drive of one track, ready
 one : (size : ℕ) → View
-one size = record { present = true; setting = settingOf (config 0 1 1 size) 8856; pending = false }
+one size = record { medium = HardDisk; present = true; setting = settingOf HardDisk (config 0 1 1 size) 8856; pending = false }
 
 block : (a b c d e f : ℕ) → Block
 block a b c d e f = blockOf (a ∷ b ∷ c ∷ d ∷ e ∷ f ∷ [])
@@ -90,10 +92,10 @@ kinds = assignTo two (track 3) (track 5) 1 (0x6C ∷ []) (freshDisk 232) .kind
 
 -- Seek on drive 1 to address 20h; then Request Sense
 sought : Result
-sought = execute controller (0x0B ∷ 0x20 ∷ 0 ∷ 0x20 ∷ 0 ∷ 0 ∷ []) [] [] [] (replicate 8464 0)
+sought = execute controller (0x0B ∷ 0x20 ∷ 0 ∷ 0x20 ∷ 0 ∷ 0 ∷ []) [] [] (imagesOf [] (replicate 8464 0) [] [])
 
 asked : Result
-asked = execute (sought .outcome .controller) (0x03 ∷ 0x20 ∷ 0 ∷ 0 ∷ 0 ∷ 0 ∷ []) [] (replicate 4 0xFF) (sought .image0) (sought .image1)
+asked = execute (sought .outcome .controller) (0x03 ∷ 0x20 ∷ 0 ∷ 0 ∷ 0 ∷ 0 ∷ []) [] (replicate 4 0xFF) (sought .images)
 
 examples :
     -- (1) n 17, f 2: sectors 8, 9 in slots 16, 1.
@@ -121,11 +123,11 @@ examples :
     -- (10) Drive 1, address 20h past the end: sense A1 20 00 20.
     × (asked .area ≡ 0xA1 ∷ 0x20 ∷ 0x00 ∷ 0x20 ∷ [])
 unfolding InSlot config lengthOf lengthFor one block four address two moved controller formatFrom ends kinds sought asked
-    part splice rows firstFrom firstBelow isSome someBelow pick sizeFor fittedTo settingBy settingOf emptyFrom put place laid layoutOf
+    part splice rows firstFrom firstBelow isSome someBelow pick mediumOf isFloppy isIn rangesOf sizeFor fittedTo fieldsIn settingBy settingOf emptyFrom put place laid layoutOf
     flagOf partnerOf idBytes idIn idFor ownId trackBytes withTrack slotId firstId withSector slotMade slotsMade formatted
-    stateBy stateOf oneBelow splits pairSplit blockOf countOf entryOf judge judged tests testsWith presentWith controlWrong isValid reach
+    stateBy stateOf oneBelow splits pairSplit blockOf countOf entryOf judge judged tests testsWith presentWith controlWrong lacks isValid reach
     sizeIn bytesOf lengthsWith addressed senseOf blankDrive driveAt withDrive sensed withSense settingIn bareOutcome failedOutcome
-    goodOutcome failed good unless requestSense plainFill madeAt assigned formatDrive settled carryOut viewOf obey imageOf left execute
+    goodOutcome failed good unless requestSense plainByte plainFill madeAt assigned formatDrive settled carryOut viewOf obey imageOf left execute
     freshDisk becomes filled assignTo parted partedBy someParted
 examples = (
   (refl, refl),

@@ -1,5 +1,5 @@
 -- What the format commands write, byte for byte: flags, partners, fills, the label. One cylinder, three heads, two sectors of one byte.
-use Prim.Native.Nat.{ℕ}
+use Prim.Native.Nat.{ℕ, _*_}
 use mathlib.Core.Path.{_≡_, refl}
 use mathlib.Core.Bool.{true}
 use mathlib.Core.List.{List, [], _∷_, _++_}
@@ -9,6 +9,7 @@ use Rattle.base.specs.Part.{part, splice, rows}
 use Rattle.base.specs.First.{firstFrom, firstBelow, isSome, someBelow}
 use Rattle.geometry.specs.declared.params.Params.{Params}
 use Rattle.geometry.specs.declared.config.Setting.the-variants.{Valid}
+use Rattle.geometry.specs.Medium.{mediumOf, isFloppy}
 use Rattle.interleave.specs.Layout.{emptyFrom, put, place, laid, layoutOf}
 use Rattle.track.specs.Id.{flagOf, partnerOf, idBytes, idIn, idFor, ownId}
 use Rattle.track.specs.Image.{trackBytes, withTrack, slotId, firstId}
@@ -16,11 +17,12 @@ use Rattle.track.specs.Format.{withSector, slotMade, slotsMade, formatted, soun
 use Rattle.track.specs.Pair.{stateBy, stateOf, splits, pairSplit}
 use Rattle.model.specs.declared.table.Command.{Command}
 use Rattle.model.specs.declared.table.Command.the-variants.{FormatDrive, FormatTrack, FormatBadTrack, AssignAlternate}
+use Rattle.model.specs.declared.record.Drive.{Drive}
 use Rattle.model.specs.declared.record.Controller.{Controller}
 use Rattle.model.specs.Block.{blockOf, fromBuffer, alternateOf}
 use Rattle.model.specs.Checks.{judged}
 use Rattle.model.specs.Record.{blankDrive, driveAt, good, unless}
-use Rattle.model.specs.Commands.{isBad, isMoved, isTaken, plainFill, fillOf, madeAt, driveFormatted, formatDrive, aloneTests}
+use Rattle.model.specs.Commands.{isBad, isMoved, isTaken, plainByte, plainFill, fillOf, madeAt, driveFormatted, formatDrive, aloneTests}
 use Rattle.model.specs.Commands.{formatTrack, assignTests, assigned, assignAlternate, onDisk, carryOut}
 
 p : Params
@@ -30,16 +32,26 @@ p = record { cylinders = 1; heads = 3; sectors = 2; size = 1 }
 config : List ℕ
 config = 1 ∷ 2 ∷ 3 ∷ 4 ∷ 5 ∷ 6 ∷ 7 ∷ 8 ∷ 9 ∷ 10 ∷ []
 
+-- that of drive 2
+other : List ℕ
+other = 11 ∷ 12 ∷ 13 ∷ 14 ∷ 15 ∷ 16 ∷ 17 ∷ 18 ∷ 19 ∷ 20 ∷ []
+
+entry : List ℕ → Drive
+entry bytes = record { sense = replicate 4 0; config = bytes; known = true; pending = true }
+
 controller : Controller
 controller = record {
   buffer = 7 ∷ replicate 511 8;
-  drives = record { sense = replicate 4 0; config = config; known = true; pending = true } ∷ blankDrive ∷ blankDrive ∷ blankDrive ∷ [];
+  drives = entry config ∷ blankDrive ∷ entry other ∷ blankDrive ∷ [];
 }
 
 -- the image that a command leaves of one that is EEh throughout, two bytes longer than the drive; address and control byte
+leavesOn : (drive : ℕ) → Command → (address control : ℕ) → (given : List ℕ) → List ℕ
+leavesOn drive command address control given =
+    carryOut (blockOf (0 ∷ (32 * drive) ∷ 0 ∷ address ∷ 1 ∷ control ∷ [])) (Valid p) given controller (replicate 72 0xEE) command .image
+
 leaves : Command → (address control : ℕ) → (given : List ℕ) → List ℕ
-leaves command address control given =
-    carryOut (blockOf (0 ∷ 0 ∷ 0 ∷ address ∷ 1 ∷ control ∷ [])) (Valid p) given controller (replicate 72 0xEE) command .image
+leaves = leavesOn 0
 
 slot : (a b c d e f g h i : ℕ) → List ℕ
 slot a b c d e f g h i = a ∷ b ∷ c ∷ d ∷ e ∷ f ∷ g ∷ h ∷ i ∷ []
@@ -62,8 +74,14 @@ formats :
     -- tracks from 1 on, and the label
     × (leaves FormatDrive 3 0x20 [] ≡ config ++ replicate 6 0 ++ old 18 ++ slot 0xA1 0 0 1 0 0 0 0 7 ++ slot 0xA1 0 0 1 1 0 0 0 7
     ++ slot 0xA1 0 0 2 0 0 0 0 7 ++ slot 0xA1 0 0 2 1 0 0 0 7 ++ old 2)
-unfolding p config controller leaves slot old carryOut onDisk formatDrive formatTrack assignAlternate assigned driveFormatted madeAt
-    plainFill fillOf fromBuffer blockOf alternateOf judged aloneTests assignTests isBad isMoved isTaken unless good driveAt blankDrive
+    -- a floppy's fill is E5h, for a bad track too; control bit 5 has no effect
+    × (leavesOn 2 FormatTrack 3 0 [] ≡ old 34 ++ slot 0xA1 0 0 1 0 0 0 0 0xE5 ++ slot 0xA1 0 0 1 1 0 0 0 0xE5 ++ old 20)
+    × (leavesOn 2 FormatTrack 3 0x20 [] ≡ leavesOn 2 FormatTrack 3 0 [])
+    × (leavesOn 3 FormatBadTrack 3 0 [] ≡ old 34 ++ slot 0xA1 0 0 1 0 1 0 0 0xE5 ++ slot 0xA1 0 0 1 1 1 0 0 0xE5 ++ old 20)
+    × (leavesOn 2 FormatDrive 3 0x20 [] ≡ other ++ replicate 6 0 ++ old 18 ++ slot 0xA1 0 0 1 0 0 0 0 0xE5 ++ slot 0xA1 0 0 1 1 0 0 0 0xE5
+    ++ slot 0xA1 0 0 2 0 0 0 0 0xE5 ++ slot 0xA1 0 0 2 1 0 0 0 0xE5 ++ old 2)
+unfolding p config other entry controller leavesOn leaves slot old carryOut onDisk formatDrive formatTrack assignAlternate assigned driveFormatted madeAt
+    plainByte plainFill fillOf fromBuffer mediumOf isFloppy blockOf alternateOf judged aloneTests assignTests isBad isMoved isTaken unless good driveAt blankDrive
     pairSplit splits stateOf stateBy firstId idIn ownId trackBytes slotId withTrack part splice rows formatted slotsMade slotMade withSector
     idBytes idFor flagOf partnerOf soundFrom layoutOf laid place put emptyFrom someBelow isSome firstBelow firstFrom pick
-formats = (refl, refl, refl, refl, refl, refl)
+formats = (refl, refl, refl, refl, refl, refl, refl, refl, refl, refl)

@@ -7,7 +7,8 @@ use lib.ListN.{set, replicate}
 use Rattle.base.specs.Pick.{pick}
 use Rattle.base.specs.Part.{part}
 use Rattle.base.specs.Same.{sameBytes}
-use Rattle.geometry.specs.Config.{sizeFor, fittedTo, settingBy, settingOf, isValid, labelSetting, labelHolds}
+use Rattle.geometry.specs.Medium.{mediumOf, isIn, rangesOf}
+use Rattle.geometry.specs.Config.{sizeFor, fittedTo, fieldsIn, settingBy, settingOf, isValid, labelSetting, labelHolds}
 use Rattle.model.specs.declared.record.Drive.{Drive}
 use Rattle.model.specs.declared.record.Controller.{Controller}
 use Rattle.model.specs.Block.{blockOf}
@@ -49,7 +50,7 @@ initializing :
     × (leaves (set own 2 8) (replicate 6 0) ≡ entry other 0x22 true)
     -- the image
     × (sends own (replicate 6 0) .image ≡ labelled (replicate 6 0))
-unfolding own other entry before labelled sends leaves initialize initializedBy initialized labelHolds isValid labelSetting settingOf
-    settingBy sizeFor fittedTo part sameBytes pick blockOf addressed senseOf blankDrive driveAt withDrive sensed withSense failedOutcome
+unfolding own other entry before labelled sends leaves initialize initializedBy initialized labelHolds isValid labelSetting mediumOf settingOf
+    settingBy fieldsIn isIn rangesOf sizeFor fittedTo part sameBytes pick blockOf addressed senseOf blankDrive driveAt withDrive sensed withSense failedOutcome
     goodOutcome failed good
 initializing = (refl, refl, refl, refl, refl, refl)

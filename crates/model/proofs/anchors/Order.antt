@@ -6,47 +6,70 @@ use mathlib.Core.List.{List, [], _∷_, _++_, map}
 use lib.ListN.{replicate}
 use Rattle.base.specs.Pick.{pick}
 use Rattle.geometry.specs.declared.params.Lba.{Lba}
-use Rattle.geometry.specs.Config.{sizeFor, fittedTo, settingBy, settingOf, isValid}
+use Rattle.geometry.specs.declared.medium.Medium.{Medium}
+use Rattle.geometry.specs.declared.medium.Medium.the-variants.{HardDisk, Floppy}
+use Rattle.geometry.specs.Medium.{mediumOf, isFloppy, isIn, rangesOf}
+use Rattle.geometry.specs.Config.{sizeFor, fittedTo, fieldsIn, settingBy, settingOf, isValid}
 use Rattle.model.specs.declared.block.Block.{Block}
 use Rattle.model.specs.declared.verdict.Verdict.{Verdict}
 use Rattle.model.specs.declared.verdict.Verdict.the-variants.{Refused, Faulty, Passed}
 use Rattle.model.specs.Block.{blockOf, countOf, fromBuffer, alternateOf}
 use Rattle.model.specs.Table.{entryOf}
-use Rattle.model.specs.Checks.{View, judged, presentWith, controlWrong, reach, testsWith, tests, sizeIn, bytesOf, lengthsWith, judge}
+use Rattle.model.specs.Checks.{View, judged, presentWith, controlWrong, lacks, reach, testsWith, tests, sizeIn, bytesOf, lengthsWith, judge}
 use Rattle.model.specs.Sense.{addressed, senseOf}
 use Rattle.model.specs.Calls.{command}
 use Rattle.model.specs.Record.{settingIn, bareOutcome, failedOutcome, failed, unless}
 use Rattle.model.specs.Engine.{viewOf, obey, left, execute, fresh}
 use Rattle.model.specs.Machine.{freshDisk, freshMachine, failing, providing, addressGiven, settingWith, seen, ordered, step}
 
--- ---- Drives: 256 data bytes, 32 sectors a track, one head; known or not, pending or not; the image's length
-drive : (cylinders : ℕ) → (known pending : Bool) → (image : ℕ) → View
-drive cylinders known pending image =
-    viewOf (record { sense = replicate 4 0; config = 0 ∷ cylinders ∷ 1 ∷ 0 ∷ 1 ∷ 0 ∷ 0 ∷ 0 ∷ 0 ∷ 0 ∷ []; known = known; pending = pending }) image
+-- ---- Drives of one head; known or not, pending or not; the image's length
+drive : Medium → (config : List ℕ) → (known pending : Bool) → (image : ℕ) → View
+drive medium config known pending image =
+    viewOf medium (record { sense = replicate 4 0; config = config; known = known; pending = pending }) image
+
+-- 256 data bytes, 32 sectors a track
+hard : (cylinders : ℕ) → (known pending : Bool) → (image : ℕ) → View
+hard cylinders = drive HardDisk (0 ∷ cylinders ∷ 1 ∷ 0 ∷ 1 ∷ 0 ∷ 0 ∷ 0 ∷ 0 ∷ 0 ∷ [])
 
 -- one track, in an image of exactly its length; and pending
 ready : View
-ready = drive 1 true false 8464
+ready = hard 1 true false 8464
 
 pending₁ : View
-pending₁ = drive 1 true true 8464
+pending₁ = hard 1 true true 8464
 
 pending₂ : View
-pending₂ = drive 2 true true 16912
+pending₂ = hard 2 true true 16912
 
 -- 256 sectors
 large : View
-large = drive 8 true false 67600
+large = hard 8 true false 67600
 
 -- no parameters: none known, here with the shortest image of a drive; or an image that is too short for them; no drive
 unknown : View
-unknown = drive 1 false false 16
+unknown = hard 1 false false 16
 
 short : View
-short = drive 1 true true 8463
+short = hard 1 true true 8463
 
 absent : View
-absent = drive 1 true true 15
+absent = hard 1 true true 15
+
+-- floppies: 128 data bytes, 16 sectors a track
+floppy : (cylinders : ℕ) → (known pending : Bool) → (image : ℕ) → View
+floppy cylinders = drive Floppy (0 ∷ cylinders ∷ 1 ∷ 1 ∷ 0 ∷ 0 ∷ 0 ∷ 0 ∷ 0 ∷ 0 ∷ [])
+
+floppyReady : View
+floppyReady = floppy 1 true false 2192
+
+floppyPending : View
+floppyPending = floppy 2 true true 4368
+
+floppyUnknown : View
+floppyUnknown = floppy 1 false false 2192
+
+floppyAbsent : View
+floppyAbsent = floppy 1 true true 0
 
 -- ---- One situation for all opcodes from 00 to 12h
 -- 0 passed, 2 or 3 a refusal, else the code
@@ -122,39 +145,57 @@ situations =
     ∷ when large 0x00 0 0 0x00 65535 65535 (row 0x00 0x00 0x20 0x00 0x22 0x22 0x22 0x22 0x03 0x20 0x02 0x00 0x20 0x20 0x22 0x00 0x00 0x00 0x20)
     ∷ when large 0x00 0 0 0x00 65536 65536 (row 0x00 0x00 0x20 0x00 0x22 0x22 0x22 0x22 0x00 0x20 0x00 0x00 0x20 0x20 0x22 0x00 0x00 0x00 0x20)
     ∷ when large 0x00 1 0 0x00 65536 65536 (row 0x00 0x00 0x20 0x00 0x22 0x22 0x22 0x22 0x21 0x20 0x21 0x00 0x20 0x20 0x22 0x00 0x00 0x00 0x20)
+    -- a floppy lacks 05 and 0Eh, where it is present and where no image is lent, after 20h and with bit 7 or without
+    ∷ when floppyReady 0x40 0 1 0x00 512 512 (row 0x00 0x00 0x20 0x00 0x00 0x22 0x00 0x00 0x00 0x20 0x00 0x00 0x20 0x20 0x22 0x00 0x00 0x00 0x20)
+    ∷ when floppyReady 0x60 0 1 0x80 512 512 (row 0x00 0x00 0x20 0x00 0x00 0x22 0x00 0x00 0x00 0x20 0x00 0x00 0x20 0x20 0x22 0x00 0x00 0x00 0x20)
+    ∷ when floppyReady 0xC0 0 1 0x00 512 512 (row 0x22 0x22 0x20 0x22 0x22 0x22 0x22 0x22 0x22 0x20 0x22 0x22 0x20 0x20 0x22 0x22 0x22 0x22 0x20)
+    ∷ when floppyAbsent 0x40 0 1 0x00 0 0 (row 0x04 0x04 0x20 0x03 0x04 0x22 0x04 0x04 0x04 0x20 0x04 0x04 0x20 0x20 0x22 0x02 0x03 0x04 0x20)
+    ∷ when floppyAbsent 0x60 0 0 0x00 0 0 (row 0x04 0x04 0x20 0x03 0x04 0x22 0x04 0x04 0x04 0x20 0x04 0x04 0x20 0x20 0x22 0x02 0x03 0x04 0x20)
+    ∷ when floppyUnknown 0x40 0 0 0x00 0 0 (row 0x0A 0x0A 0x20 0x03 0x0A 0x22 0x0A 0x0A 0x0A 0x20 0x0A 0x0A 0x20 0x20 0x22 0x02 0x03 0x02 0x20)
+    -- bit 5 is defined in 04 and 06, and not in 07
+    ∷ when floppyReady 0x40 0 1 0x20 512 512 (row 0x00 0x00 0x20 0x00 0x00 0x22 0x00 0x22 0x22 0x20 0x22 0x22 0x20 0x20 0x22 0x00 0x00 0x00 0x20)
+    -- an interleave of 15 and of 16; counts of 16 sectors with exact lengths and one byte short; a count of 17
+    ∷ when floppyReady 0x60 0 15 0x00 2048 2048 (row 0x00 0x00 0x20 0x00 0x00 0x22 0x00 0x00 0x00 0x20 0x00 0x00 0x20 0x20 0x22 0x00 0x00 0x00 0x20)
+    ∷ when floppyReady 0x60 0 16 0x00 2048 2048 (row 0x00 0x00 0x20 0x00 0x22 0x22 0x22 0x22 0x00 0x20 0x00 0x00 0x20 0x20 0x22 0x00 0x00 0x00 0x20)
+    ∷ when floppyReady 0x40 0 16 0x00 2047 2047 (row 0x00 0x00 0x20 0x00 0x22 0x22 0x22 0x22 0x03 0x20 0x02 0x00 0x20 0x20 0x22 0x00 0x00 0x00 0x20)
+    ∷ when floppyReady 0x40 0 17 0x00 4096 4096 (row 0x00 0x00 0x20 0x00 0x22 0x22 0x22 0x22 0x21 0x20 0x21 0x00 0x20 0x20 0x22 0x00 0x00 0x00 0x20)
+    -- an address past the end; pending, on track 0 and on track 1
+    ∷ when floppyReady 0x40 16 1 0x00 512 512 (row 0x00 0x00 0x20 0x00 0x21 0x22 0x21 0x21 0x21 0x20 0x21 0x21 0x20 0x20 0x22 0x00 0x00 0x00 0x20)
+    ∷ when floppyPending 0x60 15 1 0x00 0 0 (row 0x00 0x00 0x20 0x03 0x00 0x22 0x16 0x16 0x16 0x20 0x16 0x16 0x20 0x20 0x22 0x02 0x03 0x02 0x20)
+    ∷ when floppyPending 0x60 16 1 0x00 0 0 (row 0x00 0x00 0x20 0x03 0x16 0x22 0x16 0x16 0x16 0x20 0x16 0x16 0x20 0x20 0x22 0x02 0x03 0x02 0x20)
     ∷ []
 
 checks : map (λ (s : Situation). map (said s) opcodes) situations ≡ map (λ (s : Situation). s .codes) situations
-unfolding drive ready pending₁ pending₂ large unknown short absent heard row opcodes when said situations
-    viewOf settingIn presentWith settingOf settingBy sizeFor fittedTo pick blockOf countOf entryOf
-    judge judged tests testsWith controlWrong isValid reach sizeIn bytesOf lengthsWith
+unfolding drive hard ready pending₁ pending₂ large unknown short absent floppy floppyReady floppyPending floppyUnknown floppyAbsent heard row opcodes when said situations
+    viewOf settingIn presentWith mediumOf isFloppy isIn rangesOf settingOf settingBy fieldsIn sizeFor fittedTo pick blockOf countOf entryOf
+    judge judged tests testsWith controlWrong lacks isValid reach sizeIn bytesOf lengthsWith
 checks = refl
 
 -- each undefined control bit by itself
 undefined-bits : map (λ (control : ℕ). map (said (when ready 0x00 0 1 control 512 512 [])) opcodes) (0x01 ∷ 0x02 ∷ 0x04 ∷ 0x08 ∷ 0x10 ∷ 0x40 ∷ [])
     ≡ replicate 6 (row 0x00 0x00 0x20 0x00 0x22 0x22 0x22 0x22 0x22 0x20 0x22 0x22 0x20 0x20 0x22 0x00 0x00 0x00 0x20)
-unfolding drive ready heard row opcodes when said viewOf settingIn presentWith settingOf settingBy sizeFor fittedTo pick blockOf countOf entryOf
-    judge judged tests testsWith controlWrong isValid reach sizeIn bytesOf lengthsWith
+unfolding drive hard ready heard row opcodes when said viewOf settingIn presentWith mediumOf isFloppy isIn rangesOf settingOf settingBy fieldsIn sizeFor fittedTo pick blockOf countOf entryOf
+    judge judged tests testsWith controlWrong lacks isValid reach sizeIn bytesOf lengthsWith
 undefined-bits = refl
 
 -- an opcode past the table is unknown too, with bit 7 or without
 past-table : map (said (when absent 0x80 0 0 0xFF 0 0 [])) (0x12 ∷ 0x13 ∷ 0x20 ∷ 0x80 ∷ 0x91 ∷ 0xFF ∷ []) ≡ replicate 6 0x20
-unfolding drive absent heard when said viewOf settingIn presentWith settingOf settingBy sizeFor fittedTo pick blockOf entryOf judge judged tests
+unfolding drive hard absent heard when said viewOf settingIn presentWith mediumOf isFloppy isIn rangesOf settingOf settingBy fieldsIn sizeFor fittedTo pick blockOf entryOf lacks judge judged tests
 past-table = refl
 
 -- number 1 comes before all else: the block has not six bytes
 six-bytes :
-    (map (λ (n : ℕ). execute (fresh [] []) (replicate n 0xFF) [] [] [] [] .outcome .answer .number) (0 ∷ 5 ∷ 6 ∷ 7 ∷ 12 ∷ []) ≡ 1 ∷ 1 ∷ 0 ∷ 1 ∷ 1 ∷ [])
+    (map (λ (n : ℕ). execute (fresh []) (replicate n 0xFF) [] [] [] .outcome .answer .number) (0 ∷ 5 ∷ 6 ∷ 7 ∷ 12 ∷ []) ≡ 1 ∷ 1 ∷ 0 ∷ 1 ∷ 1 ∷ [])
     × (map (λ (n : ℕ). step (freshMachine (λ d. 0)) (command (replicate n 0xFF) [] 0) .0 .number) (0 ∷ 5 ∷ 6 ∷ 7 ∷ 12 ∷ []) ≡ 1 ∷ 1 ∷ 0 ∷ 1 ∷ 1 ∷ [])
 unfolding execute left obey unless failed failedOutcome bareOutcome fresh step freshMachine freshDisk ordered seen settingWith providing failing
-    viewOf settingIn presentWith pick blockOf entryOf judge judged tests
+    viewOf settingIn presentWith pick mediumOf isFloppy lacks blockOf entryOf judge judged tests
 six-bytes = (refl, refl)
 
 -- 21h has the block's address, also where only the last address is past the end
 block-address : (judge (blockOf (0x08 ∷ 0 ∷ 0 ∷ 31 ∷ 2 ∷ 0 ∷ [])) ready 0 512 ≡ Faulty 0x21 (record { 0 = 31 }))
     × (judge (blockOf (0x0A ∷ 0x1F ∷ 0xFF ∷ 0xFF ∷ 0 ∷ 0 ∷ [])) ready 0 0 ≡ Faulty 0x21 (record { 0 = 0x1FFFFF }))
-unfolding drive ready viewOf settingIn presentWith settingOf settingBy sizeFor fittedTo pick blockOf countOf entryOf
-    judge judged tests testsWith controlWrong isValid reach
+unfolding drive hard ready viewOf settingIn presentWith mediumOf isFloppy isIn rangesOf settingOf settingBy fieldsIn sizeFor fittedTo pick blockOf countOf entryOf
+    judge judged tests testsWith controlWrong lacks isValid reach
 block-address = (refl, refl)
 
 -- ---- A block's fields

@@ -1,16 +1,18 @@
 -- Parameters are pending exactly when the label does not hold them: fresh, and after every call, whatever the images.
 use Prim.Native.Nat.{ℕ, _<_}
 use mathlib.Core.Path.{_≡_, refl, sym, ap, _∙_}
-use mathlib.Core.Bool.{Bool, true, false, not}
+use mathlib.Core.Bool.{true, not}
 use mathlib.Core.List.{List, [], _∷_}
 use native.Mathlib.Omega.{arith}
 use native.Mathlib.Decide.{ℕ-discrete}
 use lib.ListN.{length}
 use lib.Dec.{eqb}
-use Rattle.base.specs.Pick.{pick}
+use Rattle.base.proofs.Decide.{pick-both}
 use Rattle.geometry.specs.declared.params.Lba.{Lba}
+use Rattle.geometry.specs.declared.medium.Medium.{Medium}
 use Rattle.geometry.specs.declared.config.Setting.{Setting}
 use Rattle.geometry.specs.declared.config.Setting.the-variants.{Valid, Invalid}
+use Rattle.geometry.specs.Medium.{mediumOf}
 use Rattle.geometry.specs.Config.{settingOf, labelHolds}
 use Rattle.model.specs.declared.block.Block.{Block}
 use Rattle.model.specs.declared.table.Command.{Command}
@@ -49,6 +51,9 @@ format? opcode = by (ℕ-discrete (opcodeFor (entryOf opcode .command)) 4)
 
 module _ (b : Block) (given : List ℕ) (area : ℕ) (h : b .drive < 4) (c : Controller) (images : ℕ → List ℕ)
     (told : AllPendingByLabel c images) where
+  abbrev medium : Medium
+  medium = mediumOf (b .drive)
+
   abbrev entry : Drive
   entry = driveAt c (b .drive)
 
@@ -60,7 +65,7 @@ module _ (b : Block) (given : List ℕ) (area : ℕ) (h : b .drive < 4) (c : Con
     makes-by-label : {d : Controller} → Makes (b .drive) c image command d → AllPendingByLabel d images
     makes-by-label nothing = told
     makes-by-label (buffer bytes) = buffer-by-label c images told bytes
-    makes-by-label (initial is config) = entry-by-label c images told (b .drive) h _ (initialized-pending config entry image)
+    makes-by-label (initial is config) = entry-by-label c images told (b .drive) h _ (initialized-pending medium config entry image)
     makes-by-label (formatted is) = absurd (other is)
     makes-by-label (sense bytes m) = sense-by-label _ images (makes-by-label m) (b .drive) h bytes
 
@@ -84,20 +89,20 @@ module _ (b : Block) (given : List ℕ) (area : ℕ) (h : b .drive < 4) (c : Con
   unless-leaves Passed e new = new refl
 
   -- Format Drive
-  format-leaves : (after : List ℕ) → labelHolds after (entry .config) ≡ true → Leaves (good b 0 [] (withDrive (b .drive) (settled entry) c) after)
+  format-leaves : (after : List ℕ) → labelHolds medium after (entry .config) ≡ true → Leaves (good b 0 [] (withDrive (b .drive) (settled entry) c) after)
   unfolding good goodOutcome settled
   format-leaves after holds =
       let renewed = both-by-label c images told (b .drive) h (settled entry) after (λ known. sym (ap not holds)) in
       sense-by-label _ _ renewed (b .drive) h _
 
-  carried-leaves : entryOf (b .opcode) .command ≡ FormatDrive → judge b (viewOf entry (length image)) (length given) area ≡ Passed
-      → (s : Setting) → settingIn entry (length image) ≡ s → Leaves (carryOut b s given c image FormatDrive)
+  carried-leaves : entryOf (b .opcode) .command ≡ FormatDrive → judge b (viewOf medium entry (length image)) (length given) area ≡ Passed
+      → (s : Setting) → settingIn medium entry (length image) ≡ s → Leaves (carryOut b s given c image FormatDrive)
   unfolding carryOut onDisk formatDrive
   carried-leaves is passed Invalid e = failed-leaves 0x0A (b .address)
   carried-leaves is passed (Valid p) e =
       let made = format-label b given area c image passed p e is in
-      let valid = ap (settingOf (entry .config)) (made .0) ∙ setting-known entry (length image) p e in
-      unless-leaves _ _ (λ ok. format-leaves _ (format-holds (entry .config) _ p (made .1) valid))
+      let valid = ap (settingOf medium (entry .config)) (made .0) ∙ setting-known medium entry (length image) p e in
+      unless-leaves _ _ (λ ok. format-leaves _ (format-holds medium (entry .config) _ p (made .1) valid))
 
   obey-leaves : Dec (entryOf (b .opcode) .command ≡ FormatDrive) → Leaves (obey b given area c image)
   unfolding obey
@@ -106,42 +111,36 @@ module _ (b : Block) (given : List ℕ) (area : ℕ) (h : b .drive < 4) (c : Con
       let made = obeyed-by-label _ other _ (obeyed b given area c image) in
       let kept = outside-kept b given area c image 16 (omega arith) (λ is. absurd (other is)) in
       image-by-label _ images made (b .drive) _ (λ known.
-      made .drives (b .drive) known ∙ ap not (sym (holds-kept image _ _ (record { len = kept .len; label = kept .below }))))
+      made .drives (b .drive) known ∙ ap not (sym (holds-kept medium image _ _ (record { len = kept .len; label = kept .below }))))
 
 -- ---- Calls
 abbrev AllIn : State → Type 0
-AllIn s = AllPendingByLabel (s .controller) (λ d. imageOf d (s .image0) (s .image1))
+AllIn s = AllPendingByLabel (s .controller) (λ d. imageOf d (s .images))
 
 abbrev stateOf : Result → State
-stateOf r = record { controller = r .outcome .controller; image0 = r .image0; image1 = r .image1 }
+stateOf r = record { controller = r .outcome .controller; images = r .images }
 
-module _ (c : Controller) (block given area image0 image1 : List ℕ) (told : AllPendingByLabel c (λ d. imageOf d image0 image1)) where
-  six-by-label : (six : Bool) (r : Result) → AllIn (stateOf r)
-      → AllIn (stateOf (pick six r (record { outcome = bareOutcome 1 c; area = area; image0 = image0; image1 = image1 })))
-  unfolding pick bareOutcome
-  six-by-label true r new = new
-  six-by-label false r new = told
-
-  execute-by-label : AllIn (stateOf (execute c block given area image0 image1))
-  unfolding execute left
+module _ (c : Controller) (block given area : List ℕ) (images : List (List ℕ)) (told : AllPendingByLabel c (λ d. imageOf d images)) where
+  execute-by-label : AllIn (stateOf (execute c block given area images))
+  unfolding execute left bareOutcome
   execute-by-label =
       let b = blockOf block in
-      let len = outside-kept b given (length area) c (imageOf (b .drive) image0 image1) 0 (omega arith) (λ is. refl) .len in
-      six-by-label (eqb (length block) 6) _
+      let len = outside-kept b given (length area) c (imageOf (b .drive) images) 0 (omega arith) (λ is. refl) .len in
+      pick-both (λ (r : Result). AllIn (stateOf r)) (eqb (length block) 6) _ _
       (images-by-label _ _
-      (obey-leaves b given (length area) (drive-below block) c (λ d. imageOf d image0 image1) told (format? (b .opcode)))
-      _ (left-images (b .drive) _ image0 image1 len))
+      (obey-leaves b given (length area) (drive-below block) c (λ d. imageOf d images) told (format? (b .opcode)))
+      _ (left-images (b .drive) _ images len)) told
 
 call-by-label : (s : State) (order : Order) → AllIn s → AllIn (called s order .1)
 unfolding called replied resetOf bareOutcome
-call-by-label s Reset told = fresh-by-label (s .image0) (s .image1)
-call-by-label s (Ordered block given area) told = execute-by-label (s .controller) block given area (s .image0) (s .image1) told
+call-by-label s Reset told = fresh-by-label (s .images)
+call-by-label s (Ordered block given area) told = execute-by-label (s .controller) block given area (s .images) told
 
 run-by-label : (orders : List Order) (s : State) → AllIn s → AllIn (engineAtEnd s orders)
 unfolding engineAtEnd
 run-by-label [] s told = told
 run-by-label (order ∷ orders) s told = run-by-label orders (called s order .1) (call-by-label s order told)
 
-pub from-fresh : (image0 image1 : List ℕ) (orders : List Order) → AllIn (engineAtEnd (begin image0 image1) orders)
+pub from-fresh : (images : List (List ℕ)) (orders : List Order) → AllIn (engineAtEnd (begin images) orders)
 unfolding begin
-from-fresh image0 image1 orders = run-by-label orders _ (fresh-by-label image0 image1)
+from-fresh images orders = run-by-label orders _ (fresh-by-label images)

@@ -1,18 +1,20 @@
 -- How a command ends. Numbers 1, 2 and 3 and no others refuse, and a refusal changes nothing at all.
 use Prim.Native.Nat.{ℕ, _≤_}
-use mathlib.Core.Path.{_≡_, refl, sym, _∙_}
-use mathlib.Core.Bool.{Bool, true, false, not, true≢false}
+use mathlib.Core.Path.{_≡_, refl}
+use mathlib.Core.Bool.{Bool, true, false, not}
 use mathlib.Core.List.{List, [], _∷_}
 use native.Mathlib.Omega.{arith}
-use lib.ListN.{length}
+use lib.ListN.{length, set}
+use lib.Seq.{set-getD}
 use lib.Dec.{eqb}
-use borrow.Author.Tests.{eqb-true, ne-eqb}
 use Rattle.base.specs.Pick.{pick}
+use Rattle.base.proofs.Decide.{pick-both}
 use Rattle.base.specs.Part.{splice}
 use Rattle.geometry.specs.declared.params.Lba.{Lba}
 use Rattle.geometry.specs.declared.params.Params.{Params}
 use Rattle.geometry.specs.declared.config.Setting.{Setting}
 use Rattle.geometry.specs.declared.config.Setting.the-variants.{Valid, Invalid}
+use Rattle.geometry.specs.Medium.{mediumOf}
 use Rattle.geometry.specs.Config.{labelHolds}
 use Rattle.sectors.specs.Transfer.{Transfer}
 use Rattle.model.specs.declared.block.Block.{Block}
@@ -57,7 +59,7 @@ pub data Makes (drive : ℕ) (c : Controller) (image : List ℕ) (command : Comm
   nothing : Makes drive c image command c
   buffer : (bytes : List ℕ) → Makes drive c image command (withBuffer bytes c)
   initial : command ≡ Initialize → (config : List ℕ)
-      → Makes drive c image command (withDrive drive (initialized config (not (labelHolds image config)) (driveAt c drive)) c)
+      → Makes drive c image command (withDrive drive (initialized config (not (labelHolds (mediumOf drive) image config)) (driveAt c drive)) c)
   formatted : command ≡ FormatDrive → Makes drive c image command (withDrive drive (settled (driveAt c drive)) c)
   sense : (bytes : List ℕ) {d : Controller} → Makes drive c image command d → Makes drive c image command (withSense drive bytes d)
 
@@ -128,57 +130,34 @@ unfolding obey
 obeyed b given area c image = verdict-obeyed b c image _ _ (judge-by b _ _ _) (carried-ends b _ given c image _)
 
 -- ---- All that a call leaves
--- no drive is both 0 and 1
-pub apart : (drive : ℕ) → eqb drive 0 ≡ true → eqb drive 1 ≡ false
-apart drive e = ne-eqb drive 1 (λ q. zero-one (sym (eqb-true drive 0 e) ∙ q))
-  where
-    zero-one : _≡_ {A = ℕ} 0 1 → ⊥
-    zero-one e = omega arith
-
 -- the images, where a command left the one that it was lent
-pub images-kept : (drive : ℕ) (image0 image1 : List ℕ) → (pick (eqb drive 0) (imageOf drive image0 image1) image0 ≡ image0)
-    × (pick (eqb drive 1) (imageOf drive image0 image1) image1 ≡ image1)
-unfolding imageOf pick
-images-kept drive image0 image1 = by (eqb drive 0) (eqb drive 1) (apart drive)
-  where
-    by : (first second : Bool) → (first ≡ true → second ≡ false) → (pick first (pick first image0 (pick second image1 [])) image0 ≡ image0)
-        × (pick second (pick first image0 (pick second image1 [])) image1 ≡ image1)
-    by true true ne = absurd (true≢false (ne refl))
-    by true false ne = (refl, refl)
-    by false true ne = (refl, refl)
-    by false false ne = (refl, refl)
+pub images-kept : (drive : ℕ) (images : List (List ℕ)) → set images drive (imageOf drive images) ≡ images
+unfolding imageOf
+images-kept drive images = set-getD images drive []
 
 -- status, message and counts are 0, and controller, area and images as they were
-abbrev pub unmoved : Controller → (area image0 image1 : List ℕ) → (number : ℕ) → Result
-unmoved c area image0 image1 number = record {
+abbrev pub unmoved : Controller → (area : List ℕ) → (images : List (List ℕ)) → (number : ℕ) → Result
+unmoved c area images number = record {
   outcome = record { controller = c; answer = record { number = number; status = 0; message = 0; sectors = 0; bytes = 0 } };
   area = area;
-  image0 = image0;
-  image1 = image1;
+  images = images;
 }
 
-pub data Answered (c : Controller) (area image0 image1 : List ℕ) (r : Result) : Type 0 where
-  accepted : r .outcome .answer .number ≡ 0 → Answered c area image0 image1 r
-  unchanged : (number : ℕ) → 1 ≤ number → number ≤ 3 → r ≡ unmoved c area image0 image1 number → Answered c area image0 image1 r
+pub data Answered (c : Controller) (area : List ℕ) (images : List (List ℕ)) (r : Result) : Type 0 where
+  accepted : r .outcome .answer .number ≡ 0 → Answered c area images r
+  unchanged : (number : ℕ) → 1 ≤ number → number ≤ 3 → r ≡ unmoved c area images number → Answered c area images r
 
-module _ (c : Controller) (block given area image0 image1 : List ℕ) where
-  left-answered : (b : Block) (command : Command) (e : Effect) → Obeyed b c (imageOf (b .drive) image0 image1) command e
-      → Answered c area image0 image1 (left (b .drive) e area image0 image1)
+module _ (c : Controller) (block given area : List ℕ) (images : List (List ℕ)) where
+  left-answered : (b : Block) (command : Command) (e : Effect) → Obeyed b c (imageOf (b .drive) images) command e
+      → Answered c area images (left (b .drive) e area images)
   unfolding left refused bareOutcome splice
   left-answered b command e (answered (ended number makes)) = accepted number
   left-answered b command e (denied number least most is) =
-      let kept = images-kept (b .drive) image0 image1 in
-      unchanged number (omega arith) most (rw (is, kept .0, kept .1))
+      unchanged number (omega arith) most (rw (is, images-kept (b .drive) images))
 
-  picked-answered : (six : Bool) (x y : Result) → Answered c area image0 image1 x → Answered c area image0 image1 y
-      → Answered c area image0 image1 (pick six x y)
-  unfolding pick
-  picked-answered true x y hx hy = hx
-  picked-answered false x y hx hy = hy
-
-  pub all-answered : Answered c area image0 image1 (execute c block given area image0 image1)
+  pub all-answered : Answered c area images (execute c block given area images)
   unfolding execute bareOutcome
   all-answered =
-      picked-answered (eqb (length block) 6) _ _
-      (left-answered (blockOf block) _ _ (obeyed (blockOf block) given (length area) c (imageOf (blockOf block .drive) image0 image1)))
+      pick-both (Answered c area images) (eqb (length block) 6) _ _
+      (left-answered (blockOf block) _ _ (obeyed (blockOf block) given (length area) c (imageOf (blockOf block .drive) images)))
       (unchanged 1 (omega arith) (omega arith) refl)

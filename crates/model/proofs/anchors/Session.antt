@@ -2,41 +2,41 @@
 use Prim.Native.Nat.{ℕ, _*_}
 use mathlib.Core.Path.{_≡_, refl}
 use mathlib.Core.List.{List, [], _∷_, _++_, map}
-use lib.ListN.{take, replicate}
-use lib.Dec.{ltb}
+use lib.ListN.{take, getD, replicate}
 use Rattle.base.specs.Pick.{pick}
 use Rattle.base.specs.Same.{sameBytes}
-use Rattle.geometry.specs.Config.{sizeFor, fittedTo, settingBy, settingOf, isValid}
+use Rattle.geometry.specs.Medium.{mediumOf, isFloppy, isIn, rangesOf}
+use Rattle.geometry.specs.Config.{sizeFor, fittedTo, fieldsIn, settingBy, settingOf, isValid}
 use Rattle.model.specs.Block.{blockOf, countOf, fromBuffer}
 use Rattle.model.specs.Table.{entryOf}
-use Rattle.model.specs.Checks.{judged, presentWith, controlWrong, reach, testsWith, tests, sizeIn, bytesOf, lengthsWith, judge}
+use Rattle.model.specs.Checks.{judged, presentWith, controlWrong, lacks, reach, testsWith, tests, sizeIn, bytesOf, lengthsWith, judge}
 use Rattle.model.specs.Sense.{addressed, senseOf}
 use Rattle.model.specs.Calls.{Call, reset, command, Reply}
 use Rattle.model.specs.Machine.{freshDisk, freshMachine, changed, withSense, withBuffer, withDisk, inForce, becomes, filled, storing}
 use Rattle.model.specs.Machine.{failing, well, providing}
 use Rattle.model.specs.Machine.{isBad, isMoved, isTaken, denied, paired, parted, partedBy, someParted, addressGiven, unassignable}
 use Rattle.model.specs.Machine.{finished, withFirst, passing, readFrom, writeFrom, inARow, leaving, transferBy, transfer}
-use Rattle.model.specs.Machine.{plain, filling, fromOn, reformatted}
+use Rattle.model.specs.Machine.{fillingOn, filling, fromOn, reformatted}
 use Rattle.model.specs.Machine.{formatDrive, checkTrack, formatTrack, formatBadTrack, read, write, assignTo, assignAlternate, isStored, initializeBy}
 use Rattle.model.specs.Machine.{withParameters, carried, settingWith, seen, ordered, restored, step}
 use Rattle.model.specs.Claim.{replies}
 
 -- ---- A call and its answer in brief: number, status, message, sectors, bytes, and the first four bytes handed over
-record Line : Type 0 where
-  call : Call
-  answer : List ℕ
+pub record Line : Type 0 where
+  pub call : Call
+  pub answer : List ℕ
 
-pub brief : Reply → List ℕ
+unfoldable pub brief : Reply → List ℕ
 brief r = r .number ∷ r .status ∷ r .message ∷ r .sectors ∷ r .bytes ∷ take 4 (r .handed)
 
 -- number, status, then sectors and bytes; the message is always 0
-says : (number status sectors bytes : ℕ) → (handed : List ℕ) → List ℕ
+unfoldable pub says : (number status sectors bytes : ℕ) → (handed : List ℕ) → List ℕ
 says number status sectors bytes handed = number ∷ status ∷ 0 ∷ sectors ∷ bytes ∷ handed
 
-four : (a b c d : ℕ) → List ℕ
+unfoldable pub four : (a b c d : ℕ) → List ℕ
 four a b c d = a ∷ b ∷ c ∷ d ∷ []
 
-six : (a b c d e f : ℕ) → List ℕ
+unfoldable pub six : (a b c d e f : ℕ) → List ℕ
 six a b c d e f = a ∷ b ∷ c ∷ d ∷ e ∷ f ∷ []
 
 -- one head, 256 bytes a sector, 32 sectors a track
@@ -44,12 +44,20 @@ config : (tracks : ℕ) → List ℕ
 config tracks = 0 ∷ tracks ∷ 1 ∷ 0 ∷ 1 ∷ 0 ∷ 0 ∷ 0 ∷ 0 ∷ 0x0B ∷ []
 
 -- a block and given data, the data area of 1,024 bytes
-sent : (block given answer : List ℕ) → Line
+unfoldable pub sent : (block given answer : List ℕ) → Line
 sent block given answer = record { call = command block given 1024; answer = answer }
 
 -- Request Sense gives these four bytes
-senses : (drive a b c d : ℕ) → Line
+unfoldable pub senses : (drive a b c d : ℕ) → Line
 senses drive a b c d = sent (six 0x03 (32 * drive) 0 0 0 0) [] (says 0 (32 * drive) 0 4 (four a b c d))
+
+-- the image lengths of the four drives
+unfoldable pub lengthsOf : (n₀ n₁ n₂ n₃ drive : ℕ) → ℕ
+lengthsOf n₀ n₁ n₂ n₃ drive = getD (n₀ ∷ n₁ ∷ n₂ ∷ n₃ ∷ []) drive 0
+
+-- a fresh machine that is fed these lengths answers as the lines say
+unfoldable pub Answers : (len : ℕ → ℕ) → List Line → Type 0
+Answers len lines = map brief (replies (freshMachine len) (map (λ (l : Line). l .call) lines)) ≡ map (λ (l : Line). l .answer) lines
 
 -- ---- The program frames of document 01, line by line
 frames : List Line
@@ -122,7 +130,7 @@ after =
     ∷ sent (six 0x08 0 0 65 1 0) [] (says 0 0 1 256 (four 1 1 1 1))
     ∷ sent (six 0x08 0 0 31 1 0) [] (says 0 0 1 256 (four 7 7 7 7))
     ∷ sent (six 0x10 0 0 0 0 0) [] (says 0 0 0 512 (four 7 7 7 7))
-    -- drive 1 has no parameters; drives 2 and 3 are absent
+    -- drive 1 has no parameters; for drives 2 and 3 no image is lent
     ∷ sent (six 0x08 0x20 0 0 1 0) [] (says 0 0x22 0 0 [])
     ∷ senses 1 0x0A 0x20 0 0
     ∷ sent (six 0x11 0x40 0 0 0 0) (config 1) (says 0 0x42 0 0 [])
@@ -155,21 +163,16 @@ starts =
     ∷ sent (six 0x11 0 0 0 0 0) (take 9 (config 3)) (says 2 0 0 0 [])
     ∷ []
 
--- two images of one length; drives 2 and 3 have none
-unfoldable pub lengths : (image drive : ℕ) → ℕ
-lengths image drive = pick (ltb drive 2) image 0
+pub session : List Line
+session = frames ++ (three ++ (after ++ starts))
 
-pub calls : List Call
-calls = map (λ (l : Line). l .call) (frames ++ (three ++ (after ++ starts)))
-
-pub answers : List (List ℕ)
-answers = map (λ (l : Line). l .answer) (frames ++ (three ++ (after ++ starts)))
-
-pub worked : map brief (replies (freshMachine (lengths 25360)) calls) ≡ answers
-unfolding brief says four six config sent senses frames three after starts lengths calls answers pick sameBytes sizeFor fittedTo settingBy settingOf
-    blockOf countOf fromBuffer entryOf judged presentWith controlWrong isValid reach testsWith tests sizeIn bytesOf lengthsWith judge
+-- two hard disks; the floppies' images have no bytes
+pub worked : Answers (lengthsOf 25360 25360 0 0) session
+unfolding brief says four six config sent senses frames three after starts session lengthsOf Answers pick sameBytes mediumOf isFloppy isIn rangesOf sizeFor fittedTo
+    fieldsIn settingBy settingOf
+    blockOf countOf fromBuffer entryOf judged presentWith controlWrong lacks isValid reach testsWith tests sizeIn bytesOf lengthsWith judge
     addressed senseOf freshDisk freshMachine changed withSense withBuffer withDisk inForce becomes filled storing failing well providing
     isBad isMoved isTaken denied paired parted partedBy someParted addressGiven unassignable finished withFirst passing readFrom writeFrom
-    inARow leaving transferBy transfer plain filling fromOn reformatted formatDrive checkTrack formatTrack formatBadTrack read write
+    inARow leaving transferBy transfer fillingOn filling fromOn reformatted formatDrive checkTrack formatTrack formatBadTrack read write
     assignTo assignAlternate isStored initializeBy withParameters carried settingWith seen ordered restored step replies
 worked = refl

@@ -1,6 +1,8 @@
-//! Times the proved library, the plain Rust engine, and a copy or fill of the same bytes, side by side.
+//! Times the proved library, the plain Rust engine, and a copy or fill of the same bytes, side by
+//! side.
 //!
-//! `cargo run --offline --release --manifest-path rust/Cargo.toml --bin bench` prints a table of nanoseconds a call and of ratios.
+//! `cargo run --offline --release --manifest-path rust/Cargo.toml --bin bench` prints a table of
+//! nanoseconds a call and of ratios.
 
 use std::hint::black_box;
 use std::time::Instant;
@@ -16,16 +18,46 @@ const ROUND_SECONDS: f64 = 0.03;
 
 struct Disk {
     name: &'static str,
+    drive: usize,
     config: [u8; 10],
     length: usize,
     sectors: u32,
     size: usize,
     tracks: usize,
+    rows: &'static [Row],
 }
 
-const DISKS: [Disk; 2] = [
-    Disk { name: "small", config: [0, 3, 1, 0, 1, 0, 0, 0, 0, 11], length: 25_360, sectors: 96, size: 256, tracks: 3 },
-    Disk { name: "largest", config: [4, 0, 7, 0, 2, 0, 0, 0, 0, 11], length: 63_365_136, sectors: 121_856, size: 512, tracks: 7_168 },
+const DISKS: [Disk; 3] = [
+    Disk {
+        name: "small",
+        drive: 0,
+        config: [0, 3, 1, 0, 1, 0, 0, 0, 0, 11],
+        length: 25_360,
+        sectors: 96,
+        size: 256,
+        tracks: 3,
+        rows: &ROWS,
+    },
+    Disk {
+        name: "largest",
+        drive: 0,
+        config: [4, 0, 7, 0, 2, 0, 0, 0, 0, 11],
+        length: 63_365_136,
+        sectors: 121_856,
+        size: 512,
+        tracks: 7_168,
+        rows: &ROWS,
+    },
+    Disk {
+        name: "floppy",
+        drive: 2,
+        config: [0, 80, 2, 1, 0, 0, 0, 0, 0, 0],
+        length: 348_176,
+        sectors: 2_560,
+        size: 128,
+        tracks: 160,
+        rows: &FLOPPY_ROWS,
+    },
 ];
 
 /// What is measured: it makes as many calls as it is told, on the memory lent.
@@ -37,9 +69,9 @@ fn seconds(run: &mut Run, memory: &mut Memory, calls: u32) -> f64 {
     start.elapsed().as_secs_f64()
 }
 
-/// Nanoseconds a call of each run: the fastest of some rounds. The runs take turns on the same memory, so that a machine that
-/// slows down, or a place in memory that is slow, slows them all; every other round goes backward, so that none profits from
-/// what another has left in the cache.
+/// Nanoseconds a call of each run: the fastest of some rounds. The runs take turns on the same
+/// memory, so that a machine that slows down, or a place in memory that is slow, slows them all;
+/// every other round goes backward, so that none profits from what another has left in the cache.
 fn nanoseconds(mut runs: Vec<Run>, memory: &mut Memory) -> Vec<f64> {
     let mut calls = vec![1u32; runs.len()];
     for (run, calls) in runs.iter_mut().zip(&mut calls) {
@@ -51,14 +83,11 @@ fn nanoseconds(mut runs: Vec<Run>, memory: &mut Memory) -> Vec<f64> {
     for round in 0..ROUNDS {
         for turn in 0..runs.len() {
             let i = if round % 2 == 0 { turn } else { runs.len() - 1 - turn };
-            best[i] = best[i].min(seconds(&mut runs[i], memory, calls[i]) * 1e9 / f64::from(calls[i]));
+            let seconds = seconds(&mut runs[i], memory, calls[i]);
+            best[i] = best[i].min(seconds * 1e9 / f64::from(calls[i]));
         }
     }
     best
-}
-
-fn block(opcode: u8, address: u32, extra: u8) -> [u8; 6] {
-    [opcode, (address >> 16) as u8, (address >> 8) as u8, address as u8, extra, 0]
 }
 
 /// What a call is lent, and the addresses to come.
@@ -75,7 +104,13 @@ impl Memory {
     fn new(disk: &Disk) -> Memory {
         let mut given = vec![7; 256 * disk.size];
         given[..10].copy_from_slice(&disk.config);
-        Memory { image: vec![0; disk.length], spare: vec![1; disk.length], given, area: vec![0; 256 * disk.size], next: 1 }
+        Memory {
+            image: vec![0; disk.length],
+            spare: vec![1; disk.length],
+            given,
+            area: vec![0; 256 * disk.size],
+            next: 1,
+        }
     }
 
     /// Another address, so that `count` sectors fit behind it.
@@ -87,39 +122,42 @@ impl Memory {
     fn command(&mut self, disk: &Disk, row: Row) -> [u8; 6] {
         let many = disk.many();
         match row {
-            Row::TestReady => block(0x00, 0, 0),
-            Row::ReadOne => block(0x08, self.address(disk, 1), 1),
-            Row::WriteOne => block(0x0A, self.address(disk, 1), 1),
-            Row::ReadMany => block(0x08, self.address(disk, many), many as u8),
-            Row::WriteMany => block(0x0A, self.address(disk, many), many as u8),
-            Row::CheckTrack => block(0x05, self.address(disk, 1), 5),
-            Row::FormatDrive => block(0x04, 0, 5),
+            Row::TestReady => disk.block(0x00, 0, 0),
+            Row::ReadOne => disk.block(0x08, self.address(disk, 1), 1),
+            Row::WriteOne => disk.block(0x0A, self.address(disk, 1), 1),
+            Row::ReadMany => disk.block(0x08, self.address(disk, many), many as u8),
+            Row::WriteMany => disk.block(0x0A, self.address(disk, many), many as u8),
+            Row::CheckTrack => disk.block(0x05, self.address(disk, 1), 5),
+            Row::FormatDrive => disk.block(0x04, 0, 5),
         }
     }
 }
 
-fn execute(engine: &mut impl Engine, memory: &mut Memory, block: &[u8]) {
-    let answer = engine.execute(block, &memory.given, &mut memory.area, &mut memory.image, &mut []);
-    assert_eq!((answer.number, answer.status), (0, 0), "{block:02X?}");
+fn execute(engine: &mut impl Engine, disk: &Disk, memory: &mut Memory, block: &[u8]) {
+    let mut images: [&mut [u8]; 4] = Default::default();
+    images[disk.drive] = &mut memory.image;
+    let answer = engine.execute(block, &memory.given, &mut memory.area, images);
+    assert_eq!((answer.number, answer.status), (0, disk.drive_bits()), "{block:02X?}");
     black_box(answer);
 }
 
 /// Initialize and Format Drive: the disk is in use.
-fn begin(engine: &mut impl Engine, memory: &mut Memory) {
-    execute(engine, memory, &block(0x11, 0, 0));
-    execute(engine, memory, &block(0x04, 0, 5));
+fn begin(engine: &mut impl Engine, disk: &Disk, memory: &mut Memory) {
+    execute(engine, disk, memory, &disk.block(0x11, 0, 0));
+    execute(engine, disk, memory, &disk.block(0x04, 0, 5));
 }
 
 fn commands<'a>(engine: &'a mut impl Engine, disk: &'a Disk, row: Row) -> Run<'a> {
     Box::new(move |memory, calls| {
         for _ in 0..calls {
             let command = memory.command(disk, row);
-            execute(engine, memory, &command);
+            execute(engine, disk, memory, &command);
         }
     })
 }
 
-/// A copy of the bytes that a transfer moves, from or to the image, or a fill of those that a format writes.
+/// A copy of the bytes that a transfer moves, from or to the image, or a fill of those that a format
+/// writes.
 fn bytes(disk: &Disk, row: Row) -> Option<Run<'_>> {
     let (count, writes) = match row {
         Row::ReadOne => (1, false),
@@ -150,6 +188,15 @@ fn bytes(disk: &Disk, row: Row) -> Option<Run<'_>> {
 }
 
 impl Disk {
+    fn drive_bits(&self) -> u8 {
+        32 * self.drive as u8
+    }
+
+    fn block(&self, opcode: u8, address: u32, extra: u8) -> [u8; 6] {
+        let [_, high, middle, low] = address.to_be_bytes();
+        [opcode, self.drive_bits() | high, middle, low, extra, 0]
+    }
+
     /// The sectors of a long transfer.
     fn many(&self) -> u32 {
         self.sectors.min(256)
@@ -167,8 +214,19 @@ enum Row {
     FormatDrive,
 }
 
-const ROWS: [Row; 7] =
-    [Row::TestReady, Row::ReadOne, Row::WriteOne, Row::ReadMany, Row::WriteMany, Row::CheckTrack, Row::FormatDrive];
+const ROWS: [Row; 7] = [
+    Row::TestReady,
+    Row::ReadOne,
+    Row::WriteOne,
+    Row::ReadMany,
+    Row::WriteMany,
+    Row::CheckTrack,
+    Row::FormatDrive,
+];
+
+/// Floppies have no Check Track.
+const FLOPPY_ROWS: [Row; 6] =
+    [Row::TestReady, Row::ReadOne, Row::WriteOne, Row::ReadMany, Row::WriteMany, Row::FormatDrive];
 
 fn title(row: Row, disk: &Disk) -> String {
     match row {
@@ -182,24 +240,35 @@ fn title(row: Row, disk: &Disk) -> String {
     }
 }
 
+fn measure(
+    proved: &mut impl Engine,
+    plain: &mut impl Engine,
+    disk: &Disk,
+    row: Row,
+    memory: &mut Memory,
+) {
+    let runs = vec![commands(proved, disk, row), commands(plain, disk, row)];
+    let engines = nanoseconds(runs, memory);
+    let (ours, theirs) = (engines[0], engines[1]);
+    let moved = bytes(disk, row).map(|run| nanoseconds(vec![run], memory)[0]);
+    let cost = moved.map_or(String::new(), |moved| format!("{moved:.0}"));
+    let share = moved.map_or(String::new(), |moved| format!("{:.2}", ours / moved));
+    let (name, title, ratio) = (disk.name, title(row, disk), ours / theirs);
+    println!("| {name} | {title} | {ours:.0} | {theirs:.0} | {cost} | {ratio:.2} | {share} |");
+}
+
 fn main() {
     println!("| disk | command | proved ns | plain ns | memory ns | / plain | / memory |");
     println!("|---|---|---|---|---|---|---|");
-    // both at the start: what is freed and taken again would lie elsewhere
+    // all at the start: what is freed and taken again would lie elsewhere
     let mut memories = DISKS.each_ref().map(Memory::new);
     for (disk, memory) in DISKS.iter().zip(&mut memories) {
-        let mut plain = plain::Controller::fresh(&[], &[]);
+        let mut plain = plain::Controller::fresh([&[]; 4]);
         let mut proved = Proved::from_record(&plain);
-        begin(&mut plain, memory);
-        begin(&mut proved, memory);
-        for row in ROWS {
-            let engines = nanoseconds(vec![commands(&mut proved, disk, row), commands(&mut plain, disk, row)], memory);
-            let (ours, theirs) = (engines[0], engines[1]);
-            let (cost, share) = match bytes(disk, row).map(|run| nanoseconds(vec![run], memory)[0]) {
-                Some(moved) => (format!("{moved:.0}"), format!("{:.2}", ours / moved)),
-                None => (String::new(), String::new()),
-            };
-            println!("| {} | {} | {ours:.0} | {theirs:.0} | {cost} | {:.2} | {share} |", disk.name, title(row, disk), ours / theirs);
+        begin(&mut plain, disk, memory);
+        begin(&mut proved, disk, memory);
+        for &row in disk.rows {
+            measure(&mut proved, &mut plain, disk, row, memory);
         }
     }
 }

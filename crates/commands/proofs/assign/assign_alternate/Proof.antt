@@ -17,31 +17,24 @@ use Rattle.control.proofs.record.good.Reads as good-reads
 use Rattle.control.proofs.record.refused.Reads as refused-reads
 use Rattle.geometry.proofs.params.Params.track_of.Reads as track-of-reads
 
--- src/assign.rt:102:9
 alternate-of-requires : tie.Need-alternate-of-requires
 alternate-of-requires c κs = search needs
 
--- src/assign.rt:103:43
 shared-slice-read-assign-faults : tie.Need-shared-slice-read-assign-faults
 shared-slice-read-assign-faults c = search needs
 
--- src/assign.rt:103:9
 assign-faults-requires : tie.Need-assign-faults-requires
 assign-faults-requires c κs = search needs
 
--- src/assign.rt:105:26
 enum-known-verdict : tie.Need-enum-known-verdict
 enum-known-verdict c = search needs
 
--- src/assign.rt:105:37
 refused-requires : tie.Need-refused-requires
 refused-requires c κs = search needs
 
--- src/assign.rt:106:25
 enum-known-verdict-2 : tie.Need-enum-known-verdict-2
 enum-known-verdict-2 c = search needs
 
--- src/assign.rt:106:41
 failed-requires : tie.Need-failed-requires
 failed-requires c κs =
     let alternate = c .before .before .before .before .before .before in
@@ -54,35 +47,27 @@ failed-requires c κs =
     let fault = fault-below _ _ _ _ _ _ judged 2097152 (a .pre .2) below _ _ (c .before .verdict2 .given .1) in
     (a .pre .1, fault .0, fault .1)
 
--- src/assign.rt:108:17
 enum-told : tie.Need-enum-told
 enum-told c = search needs
 
--- src/assign.rt:110:24
 fill-of-requires : tie.Need-fill-of-requires
 fill-of-requires c κs = search needs
 
--- src/assign.rt:111:36
 track-of-requires : tie.Need-track-of-requires
 track-of-requires c κs = search needs
 
--- src/assign.rt:111:52
 track-of-requires-2 : tie.Need-track-of-requires-2
 track-of-requires-2 c κs = search needs
 
--- src/assign.rt:111:75
 sub-make-pair : tie.Need-sub-make-pair
 sub-make-pair c = search needs
 
--- src/assign.rt:111:75
 part-make-pair-start : tie.Need-part-make-pair-start
 part-make-pair-start c = search needs
 
--- src/assign.rt:111:75
 part-make-pair-end : tie.Need-part-make-pair-end
 part-make-pair-end c = search needs
 
--- src/assign.rt:111:13
 make-pair-requires : tie.Need-make-pair-requires
 make-pair-requires c κs =
     let judged = c .before .before .before .before .before .before .before .before in
@@ -95,37 +80,30 @@ make-pair-requires c κs =
       search needs,
     )
 
--- src/assign.rt:112:13
 good-requires : tie.Need-good-requires
 good-requires c κs = search needs
 
--- src/assign.rt:96:1
 same-length : tie.Need-same-length
 same-length c = search needs
 
--- src/assign.rt:96:1
 returns : tie.Need-returns
 returns c =
     let judged = c .before .before .before .before in
     assign-refused _ _ _ _ _ _ _ (judged .before .before .before .alternate-of .ensures) _ (judged .assign-faults .ensures)
     _ (c .before .before .verdict .given .1) (c .refused .ensures _)
 
--- src/assign.rt:96:1
 same-length-2 : tie.Need-same-length-2
 same-length-2 c = search needs
 
--- src/assign.rt:96:1
 returns-2 : tie.Need-returns-2
 returns-2 c =
     let judged = c .before .before .before .before in
     assign-fails _ _ _ _ _ _ _ (judged .before .before .before .alternate-of .ensures) _ (judged .assign-faults .ensures)
     _ _ (c .before .before .verdict2 .given .1) (c .failed .ensures _)
 
--- src/assign.rt:96:1
 same-length-3 : tie.Need-same-length-3
 same-length-3 c = search needs
 
--- src/assign.rt:96:1
 returns-3 : tie.Need-returns-3
 returns-3 c =
     assign-well _ _ _ _ _ _ _ (c .before .before .before .before .before .before .before .before .before .before .before .before .before .before .before .alternate-of .ensures) _ (c .before .before .before .before .before .before .before .before .before .before .before .before .assign-faults .ensures)

@@ -14,35 +14,28 @@ use Rattle.geometry.proofs.params.Params.last_address.Reads as last-address-rea
 use Rattle.geometry.proofs.params.Params.track_of.Reads as track-of-reads
 use Rattle.track.proofs.pair.state_of.Reads as state-of-reads
 
--- src/assign.rt:64:9
 returns : tie.Need-returns
 returns c = first-past _ _ _ _ _ _ (c .if1 .taken)
 
--- src/assign.rt:66:9
 last-address-requires : tie.Need-last-address-requires
 last-address-requires c κs = search needs
 
--- src/assign.rt:68:9
 returns-2 : tie.Need-returns-2
 returns-2 c =
     let bound = c .before .before .before in
     alternate-past _ _ _ _ _ _ (bound .before .if1 .left) _ (bound .last-address .ensures) (c .if2 .taken)
 
--- src/assign.rt:70:9
 track-of-requires : tie.Need-track-of-requires
 track-of-requires c κs = search needs
 
--- src/assign.rt:71:9
 track-of-requires-2 : tie.Need-track-of-requires-2
 track-of-requires-2 c κs = search needs
 
--- src/assign.rt:72:9
 state-of-requires : tie.Need-state-of-requires
 state-of-requires c κs =
     let a = c .before .before .before .before .before .before .before .before in
     (a .pre .0, bound-of _ _ _ (c .before .track-of .ensures) (a .pre .1))
 
--- src/assign.rt:73:9
 state-of-requires-2 : tie.Need-state-of-requires-2
 state-of-requires-2 c κs =
     let tested = c .before .before .before in
@@ -50,35 +43,27 @@ state-of-requires-2 c κs =
     let in-drive = alternate-in _ (a .pre .0 .within) _ _ (tested .before .before .before .last-address .ensures) (tested .if2 .left) in
     (a .pre .0, bound-of _ _ _ (c .before .track-of2 .ensures) in-drive)
 
--- src/assign.rt:77:9
 is-moved-requires : tie.Need-is-moved-requires
 is-moved-requires c κs = search needs
 
--- src/assign.rt:78:9
 is-taken-requires : tie.Need-is-taken-requires
 is-taken-requires c κs = search needs
 
--- src/assign.rt:80:9
 is-taken-requires-2 : tie.Need-is-taken-requires-2
 is-taken-requires-2 c κs = search needs
 
--- src/assign.rt:81:16
 is-moved-requires-2 : tie.Need-is-moved-requires-2
 is-moved-requires-2 c κs = search needs
 
--- src/assign.rt:81:33
 is-bad-requires : tie.Need-is-bad-requires
 is-bad-requires c κs = search needs
 
--- src/assign.rt:81:9
 either-requires : tie.Need-either-requires
 either-requires c κs = search needs
 
--- src/assign.rt:74:5
 pair-faults-requires : tie.Need-pair-faults-requires
 pair-faults-requires c κs = search needs
 
--- src/assign.rt:59:1
 returns-3 : tie.Need-returns-3
 returns-3 c =
     let away = c .before .before .before .before in

@@ -6,32 +6,26 @@ use Rattle.commands.proofs.assign.pair_faults.Tie as tie
 use Rattle.commands.proofs.assign.pair_faults.Reads as reads
 use Rattle.commands.proofs.assign.pair_faults.Lts as lts
 
--- src/assign.rt:41:9
 returns : tie.Need-returns
 unfolding judged
 returns c = search (needs, decide)
 
--- src/assign.rt:44:9
 returns-2 : tie.Need-returns-2
 unfolding judged
 returns-2 c = search (needs, decide)
 
--- src/assign.rt:47:9
 returns-3 : tie.Need-returns-3
 unfolding judged
 returns-3 c = search (needs, decide)
 
--- src/assign.rt:50:9
 returns-4 : tie.Need-returns-4
 unfolding judged
 returns-4 c = search (needs, decide)
 
--- src/assign.rt:53:9
 returns-5 : tie.Need-returns-5
 unfolding judged
 returns-5 c = search (needs, decide)
 
--- src/assign.rt:37:1
 returns-6 : tie.Need-returns-6
 unfolding judged
 returns-6 c = search (needs, decide)

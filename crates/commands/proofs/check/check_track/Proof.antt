@@ -11,43 +11,34 @@ use Rattle.geometry.proofs.params.Params.track_of.Reads as track-of-reads
 use Rattle.interleave.proofs.layout.Reads as layout-reads
 use Rattle.track.proofs.check.check_track.Reads as check-track-reads
 
--- src/check.rt:23:25
 cast-layout : tie.Need-cast-layout
 cast-layout c = search needs
 
--- src/check.rt:23:15
 layout-requires : tie.Need-layout-requires
 layout-requires c κs = search needs
 
--- src/check.rt:24:52
 track-of-requires : tie.Need-track-of-requires
 track-of-requires c κs = search needs
 
--- src/check.rt:24:68
 sub-check-track : tie.Need-sub-check-track
 sub-check-track c = search needs
 
--- src/check.rt:24:68
 part-check-track-start : tie.Need-part-check-track-start
 part-check-track-start c = search needs
 
--- src/check.rt:24:68
 part-check-track-end : tie.Need-part-check-track-end
 part-check-track-end c = search needs
 
--- src/check.rt:24:9
 check-track-requires : tie.Need-check-track-requires
 check-track-requires c κs =
     let a = c .before .before .before .before .before .before .before in
     (a .pre .0, bound-of _ _ _ (c .before .before .track-of .ensures) (a .pre .3), search needs)
 
--- src/check.rt:26:9
 failed-requires : tie.Need-failed-requires
 failed-requires c κs =
     let a = c .before .before .before .before .before .before .before .before .before in
     (a .pre .1, check-below _ _ _ _ _ (c .before .check-track .ensures), a .pre .2)
 
--- src/check.rt:26:9
 returns : tie.Need-returns
 returns c buffer =
     let checked = c .before .before in
@@ -55,11 +46,9 @@ returns c buffer =
     check-fails _ _ _ _ _ _ _ _ (asked .before .before .before .before .before .pre .4) (asked .before .layout .ensures)
     (asked .track-of .ensures) (checked .check-track .ensures) (c .before .if1 .taken) (c .failed .ensures buffer)
 
--- src/check.rt:28:5
 good-requires : tie.Need-good-requires
 good-requires c κs = search needs
 
--- src/check.rt:16:1
 returns-2 : tie.Need-returns-2
 returns-2 c buffer =
     let checked = c .before .before in

@@ -1,5 +1,5 @@
 use Rattle.control.specs.Leaves.{recordOf}
-use Rattle.commands.proofs.Makings.{fill-lent}
+use Rattle.commands.proofs.Makings.{plain-of, fill-lent}
 use Rattle.model.specs.Commands.{formatTrack}
 use Rattle.track.specs.declared.id.State.the-variants.{Bad}
 use Rattle.track.specs.Id.{partnerOf}
@@ -14,45 +14,45 @@ use Rattle.commands.proofs.format.format_bad.Reads as reads
 use Rattle.commands.proofs.format.format_bad.Lts as lts
 use Rattle.commands.proofs.format.format_track.Reads as format-track-reads
 use Rattle.commands.proofs.making.plain_fill.Reads as plain-fill-reads
+use Rattle.geometry.proofs.medium.medium_of.Reads as medium-of-reads
 
--- src/format.rt:110:16
+medium-of-requires : tie.Need-medium-of-requires
+medium-of-requires c κs = search needs
+
 plain-fill-requires : tie.Need-plain-fill-requires
 plain-fill-requires c κs = search needs
 
--- src/format.rt:111:44
 sub-format-track : tie.Need-sub-format-track
 sub-format-track c = search needs
 
--- src/format.rt:111:44
 part-format-track-start : tie.Need-part-format-track-start
 part-format-track-start c = search needs
 
--- src/format.rt:111:44
 part-format-track-end : tie.Need-part-format-track-end
 part-format-track-end c = search needs
 
--- src/format.rt:111:5
 format-track-requires : tie.Need-format-track-requires
 unfolding partnerOf
 format-track-requires c κs =
-    let a = c .before .before .before .before .before in
+    let a = c .before .before .before .before .before .before in
     (a .pre .0, a .pre .1, a .pre .2, a .pre .3, a .pre .4, omega arith, search needs)
 
--- src/format.rt:105:1
 same-length : tie.Need-same-length
 same-length c = search needs
 
--- src/format.rt:105:1
 returns : tie.Need-returns
 returns c buffer =
-    let a = c .before .before .before .before .before .before .before .before .args in
+    let m = c .before .before .before .before .before .before in
+    let a = m .before .before .before .args in
     c .before .before .format-track .ensures buffer
-    ∙ ap (λ (fill : List ℕ). formatTrack (a .b) (a .p) Bad fill (recordOf buffer (a .drives)) (a .image .now)) (fill-lent _ _ ∙ c .before .before .before .before .before .before .plain-fill .ensures .0)
+    ∙ ap (λ (fill : List ℕ). formatTrack (a .b) (a .p) Bad fill (recordOf buffer (a .drives)) (a .image .now))
+    (fill-lent _ _ ∙ plain-of _ _ _ _ (m .before .medium-of .ensures) (m .plain-fill .ensures .0))
 
 pub format-bad-spec : {M : Type 1} → statement M
 format-bad-spec =
     tie.close
     (tie.spec
+    medium-of-requires
     plain-fill-requires
     sub-format-track
     part-format-track-start

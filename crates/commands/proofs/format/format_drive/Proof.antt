@@ -13,66 +13,51 @@ use Rattle.control.proofs.record.good.Reads as good-reads
 use Rattle.geometry.proofs.params.Params.track_of.Reads as track-of-reads
 use Rattle.track.proofs.pair.splits_pair.Reads as splits-pair-reads
 
--- src/format.rt:133:30
 track-of-requires : tie.Need-track-of-requires
 track-of-requires c κs = search needs
 
--- src/format.rt:133:8
 splits-pair-requires : tie.Need-splits-pair-requires
 splits-pair-requires c κs = search needs
 
--- src/format.rt:134:9
 failed-requires : tie.Need-failed-requires
 failed-requires c κs = search needs
 
--- src/format.rt:134:9
 same-length : tie.Need-same-length
 same-length c = search needs
 
--- src/format.rt:134:9
 returns : tie.Need-returns
 returns c =
     let tested = c .before in
     let asked = tested .before in
     drive-fails _ _ _ _ _ _ (asked .before .track-of .ensures) _ (asked .splits-pair .ensures) (tested .if1 .taken) (c .failed .ensures _)
 
--- src/format.rt:138:16
 fill-of-requires : tie.Need-fill-of-requires
 fill-of-requires c κs = search needs
 
--- src/format.rt:139:9
 drive-at-requires : tie.Need-drive-at-requires
 drive-at-requires c κs = search needs
 
--- src/format.rt:141:37
 sub-make-drive : tie.Need-sub-make-drive
 sub-make-drive c = search needs
 
--- src/format.rt:141:37
 part-make-drive-start : tie.Need-part-make-drive-start
 part-make-drive-start c = search needs
 
--- src/format.rt:141:37
 part-make-drive-end : tie.Need-part-make-drive-end
 part-make-drive-end c = search needs
 
--- src/format.rt:141:5
 make-drive-requires : tie.Need-make-drive-requires
 make-drive-requires c κs = search needs
 
--- src/format.rt:142:10
 settle-requires : tie.Need-settle-requires
 settle-requires c κs = search needs
 
--- src/format.rt:142:5
 good-requires : tie.Need-good-requires
 good-requires c κs = search needs
 
--- src/format.rt:127:1
 same-length-2 : tie.Need-same-length-2
 same-length-2 c = search needs
 
--- src/format.rt:127:1
 returns-2 : tie.Need-returns-2
 returns-2 c =
     drive-well _ _ _ _ _ _ (c .before .before .before .before .before .before .before .before .before .before .before .before .before .track-of .ensures) _ (c .before .before .before .before .before .before .before .before .before .before .before .before .splits-pair .ensures) _ _ _ _ (c .before .before .before .before .before .before .before .before .before .before .before .if1 .left)

@@ -1,4 +1,4 @@
-use Rattle.commands.proofs.Formats.{fill-is}
+use Rattle.commands.proofs.Makings.{fill-lent}
 use Rattle.model.specs.Commands.{formatTrack}
 use Rattle.control.specs.Leaves.{recordOf}
 use Rattle.track.specs.declared.id.State.the-variants.{Sound}
@@ -15,40 +15,33 @@ use Rattle.commands.proofs.format.format_sound.Lts as lts
 use Rattle.commands.proofs.format.format_track.Reads as format-track-reads
 use Rattle.commands.proofs.making.fill_of.Reads as fill-of-reads
 
--- src/format.rt:100:16
 fill-of-requires : tie.Need-fill-of-requires
 fill-of-requires c κs = search needs
 
--- src/format.rt:101:46
 sub-format-track : tie.Need-sub-format-track
 sub-format-track c = search needs
 
--- src/format.rt:101:46
 part-format-track-start : tie.Need-part-format-track-start
 part-format-track-start c = search needs
 
--- src/format.rt:101:46
 part-format-track-end : tie.Need-part-format-track-end
 part-format-track-end c = search needs
 
--- src/format.rt:101:5
 format-track-requires : tie.Need-format-track-requires
 unfolding partnerOf
 format-track-requires c κs =
     let a = c .before .before .before .before .before .before in
     (a .pre .0, a .pre .1, a .pre .2, a .pre .3, a .pre .4, omega arith, search needs)
 
--- src/format.rt:89:1
 same-length : tie.Need-same-length
 same-length c = search needs
 
--- src/format.rt:89:1
 returns : tie.Need-returns
 returns c =
     let a = c .before .before .before .before .before .before .before .before .before .args in
     let k = recordOf (a .buffer .now) (a .drives) in
     c .before .before .format-track .ensures _
-    ∙ ap (λ (fill : List ℕ). formatTrack (a .b) (a .p) Sound fill k (a .image .now)) (fill-is (a .b) (a .p) k _ (c .before .before .before .before .before .before .fill-of .ensures .0))
+    ∙ ap (λ (fill : List ℕ). formatTrack (a .b) (a .p) Sound fill k (a .image .now)) (fill-lent (a .p .size) _ ∙ c .before .before .before .before .before .before .fill-of .ensures .0)
 
 pub format-sound-spec : {M : Type 1} → statement M
 format-sound-spec =

@@ -14,29 +14,23 @@ use Rattle.control.proofs.record.good.Reads as good-reads
 use Rattle.geometry.proofs.params.Params.track_of.Reads as track-of-reads
 use Rattle.track.proofs.pair.state_of.Reads as state-of-reads
 
--- src/format.rt:152:9
 track-of-requires : tie.Need-track-of-requires
 track-of-requires c κs = search needs
 
--- src/format.rt:153:9
 state-of-requires : tie.Need-state-of-requires
 state-of-requires c κs =
     let a = c .before .before .before .before .before in
     (a .pre .0, bound-of _ _ _ (c .before .track-of .ensures) (a .pre .3))
 
--- src/format.rt:154:8
 is-moved-requires : tie.Need-is-moved-requires
 is-moved-requires c κs = search needs
 
--- src/format.rt:155:9
 failed-requires : tie.Need-failed-requires
 failed-requires c κs = search needs
 
--- src/format.rt:155:9
 same-length : tie.Need-same-length
 same-length c = search needs
 
--- src/format.rt:155:9
 returns : tie.Need-returns
 returns c buffer =
     let moved = c .before .before in
@@ -44,19 +38,15 @@ returns c buffer =
     track-moved _ _ _ _ _ _ (state .before .before .track-of .ensures) _ _ _ (state .state-of .ensures) _ (moved .is-moved .ensures)
     (c .before .if1 .taken) (c .failed .ensures buffer)
 
--- src/format.rt:157:8
 is-taken-requires : tie.Need-is-taken-requires
 is-taken-requires c κs = search needs
 
--- src/format.rt:158:9
 failed-requires-2 : tie.Need-failed-requires-2
 failed-requires-2 c κs = search needs
 
--- src/format.rt:158:9
 same-length-2 : tie.Need-same-length-2
 same-length-2 c = search needs
 
--- src/format.rt:158:9
 returns-2 : tie.Need-returns-2
 returns-2 c buffer =
     let taken = c .before .before in
@@ -65,21 +55,17 @@ returns-2 c buffer =
     track-taken _ _ _ _ _ _ (state .before .before .track-of .ensures) _ _ _ (state .state-of .ensures) _ (moved .is-moved .ensures)
     (taken .before .if1 .left) _ (taken .is-taken .ensures) (c .before .if2 .taken) (c .failed2 .ensures buffer)
 
--- src/format.rt:161:5
 make-at-requires : tie.Need-make-at-requires
 make-at-requires c κs =
     let a = c .before .before .before .before .before .before .before .before .before .before .before in
     (a .pre .0, bound-of _ _ _ (c .before .before .before .before .before .before .before .track-of .ensures) (a .pre .3), a .pre .5, a .pre .4, a .pre .6)
 
--- src/format.rt:162:5
 good-requires : tie.Need-good-requires
 good-requires c κs = search needs
 
--- src/format.rt:146:1
 same-length-3 : tie.Need-same-length-3
 same-length-3 c = search needs
 
--- src/format.rt:146:1
 returns-3 : tie.Need-returns-3
 returns-3 c buffer =
     let taken = c .before .before .before .before .before .before in

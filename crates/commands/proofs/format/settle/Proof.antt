@@ -7,15 +7,12 @@ use Rattle.commands.proofs.format.settle.Lts as lts
 use Rattle.control.proofs.record.drive_at.Reads as drive-at-reads
 use Rattle.control.proofs.record.with_drive.Reads as with-drive-reads
 
--- src/format.rt:122:9
 drive-at-requires : tie.Need-drive-at-requires
 drive-at-requires c κs = search needs
 
--- src/format.rt:124:5
 with-drive-requires : tie.Need-with-drive-requires
 with-drive-requires c κs = search needs
 
--- src/format.rt:118:1
 returns : tie.Need-returns
 returns c = settled-by (c .before .before .args .drives) _ (c .before .before .args .drive) _ (c .before .drive-at .ensures) (c .with-drive .ensures)
 

@@ -11,63 +11,58 @@ use Rattle.control.proofs.record.with_drive.Reads as with-drive-reads
 use Rattle.geometry.proofs.config.config_in.Reads as config-in-reads
 use Rattle.geometry.proofs.config.label_holds.Reads as label-holds-reads
 use Rattle.geometry.proofs.config.setting_of.Reads as setting-of-reads
+use Rattle.geometry.proofs.medium.medium_of.Reads as medium-of-reads
 
--- src/initialize.rt:23:9
 config-in-requires : tie.Need-config-in-requires
 config-in-requires c κs = search needs
 
--- src/initialize.rt:25:9
+medium-of-requires : tie.Need-medium-of-requires
+medium-of-requires c κs = search needs
+
 setting-of-requires : tie.Need-setting-of-requires
 setting-of-requires c κs = search needs
 
--- src/initialize.rt:27:29
 enum-told : tie.Need-enum-told
 enum-told c = search needs
 
--- src/initialize.rt:27:29
 failed-requires : tie.Need-failed-requires
 failed-requires c κs = search needs
 
--- src/initialize.rt:29:17
 enum-told-2 : tie.Need-enum-told-2
 enum-told-2 c = search needs
 
--- src/initialize.rt:29:17
 drive-at-requires : tie.Need-drive-at-requires
 drive-at-requires c κs = search needs
 
--- src/initialize.rt:31:17
 label-holds-requires : tie.Need-label-holds-requires
 label-holds-requires c κs = search needs
 
--- src/initialize.rt:38:18
 with-drive-requires : tie.Need-with-drive-requires
 with-drive-requires c κs = search needs
 
--- src/initialize.rt:38:13
 good-requires : tie.Need-good-requires
 good-requires c κs = search needs
 
--- src/initialize.rt:19:1
 returns : tie.Need-returns
 returns c buffer =
     let s = c .before .before .before in
-    initialize-invalid _ _ _ _ _ _ _ (s .before .config-in .ensures) (s .setting-of .ensures) (c .before .enum-told .given .1) (c .failed .ensures buffer)
+    initialize-invalid _ _ _ _ _ _ _ _ (s .before .before .config-in .ensures) (s .before .medium-of .ensures) (s .setting-of .ensures)
+    (c .before .enum-told .given .1) (c .failed .ensures buffer)
 
--- src/initialize.rt:19:1
 returns-2 : tie.Need-returns-2
 returns-2 c buffer =
     let h = c .before .before in
     let d = h .before .before in
     let s = d .before .before .before in
-    initialize-valid _ _ _ _ _ _ _ (s .before .config-in .ensures) (s .setting-of .ensures) _ (d .before .enum-told2 .given .1)
-    _ (d .drive-at .ensures) _ (h .label-holds .ensures) _ (c .before .with-drive .ensures) (c .good2 .ensures buffer)
+    initialize-valid _ _ _ _ _ _ _ _ (s .before .before .config-in .ensures) (s .before .medium-of .ensures) (s .setting-of .ensures)
+    _ (d .before .enum-told2 .given .1) _ (d .drive-at .ensures) _ (h .label-holds .ensures) _ (c .before .with-drive .ensures) (c .good2 .ensures buffer)
 
 pub initialize-spec : {M : Type 1} → statement M
 initialize-spec =
     tie.close
     (tie.spec
     config-in-requires
+    medium-of-requires
     setting-of-requires
     enum-told
     failed-requires

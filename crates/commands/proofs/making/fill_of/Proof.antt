@@ -1,6 +1,4 @@
-use Rattle.base.proofs.Decide.{pick-true, pick-false}
-use Rattle.base.specs.Part.{part}
-use mathlib.Core.Path.{sym, ap, _∙_}
+use Rattle.commands.proofs.Makings.{fill-taken, fill-plain}
 use borrow.Author.Needs.{needs}
 use Rattle.commands.proofs.making.fill_of.Statement.{statement}
 use Rattle.commands.proofs.making.fill_of.Tie as tie
@@ -9,38 +7,56 @@ use Rattle.commands.proofs.making.fill_of.Lts as lts
 use Rattle.base.proofs.copy_bytes.Reads as copy-bytes-reads
 use Rattle.commands.proofs.making.plain_fill.Reads as plain-fill-reads
 use Rattle.control.proofs.block.from_buffer.Reads as from-buffer-reads
+use Rattle.control.proofs.logic.both.Reads as both-reads
+use Rattle.geometry.proofs.medium.is_floppy.Reads as is-floppy-reads
+use Rattle.geometry.proofs.medium.medium_of.Reads as medium-of-reads
 
--- src/making.rt:38:8
+medium-of-requires : tie.Need-medium-of-requires
+medium-of-requires c κs = search needs
+
 from-buffer-requires : tie.Need-from-buffer-requires
 from-buffer-requires c κs = search needs
 
--- src/making.rt:40:20
+is-floppy-requires : tie.Need-is-floppy-requires
+is-floppy-requires c κs = search needs
+
+both-requires : tie.Need-both-requires
+both-requires c κs = search needs
+
 slice-aggregate-copy-bytes : tie.Need-slice-aggregate-copy-bytes
 slice-aggregate-copy-bytes c = search needs
 
--- src/making.rt:40:9
 copy-bytes-requires : tie.Need-copy-bytes-requires
 copy-bytes-requires c κs = search needs
 
--- src/making.rt:41:9
 returns : tie.Need-returns
-returns c = (ap (part 0 _) (c .before .copy-bytes .ensures) ∙ sym (pick-true _ _ _ (sym (c .before .before .before .before .from-buffer .ensures) ∙ c .before .before .before .if1 .taken)), search needs)
+returns c =
+    let at = c .before .before .before .before in (
+      fill-taken _ _ _ _ (at .before .before .before .medium-of .ensures) _ _ _ (at .before .before .from-buffer .ensures)
+          (at .before .is-floppy .ensures) (at .both .ensures) (c .before .before .before .if1 .taken) _ (c .before .copy-bytes .ensures),
+      search needs,
+    )
 
--- src/making.rt:43:5
 plain-fill-requires : tie.Need-plain-fill-requires
 plain-fill-requires c κs = search needs
 
--- src/making.rt:34:1
 returns-2 : tie.Need-returns-2
 returns-2 c =
-    let plain = c .plain-fill .ensures in
-    (plain .0 ∙ sym (pick-false _ _ _ (sym (c .before .before .from-buffer .ensures) ∙ c .before .if1 .left)), plain .1)
+    let at = c .before .before in
+    let plain = c .plain-fill .ensures in (
+      fill-plain _ _ _ _ (at .before .before .before .medium-of .ensures) _ _ _ (at .before .before .from-buffer .ensures)
+          (at .before .is-floppy .ensures) (at .both .ensures) (c .before .if1 .left) _ (plain .0),
+      plain .1,
+    )
 
 pub fill-of-spec : {M : Type 1} → statement M
 fill-of-spec =
     tie.close
     (tie.spec
+    medium-of-requires
     from-buffer-requires
+    is-floppy-requires
+    both-requires
     slice-aggregate-copy-bytes
     copy-bytes-requires
     returns

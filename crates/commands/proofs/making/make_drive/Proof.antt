@@ -10,45 +10,35 @@ use Rattle.geometry.proofs.params.Params.track_of.Reads as track-of-reads
 use Rattle.interleave.proofs.layout.Reads as layout-reads
 use Rattle.track.proofs.format.format_from.Reads as format-from-reads
 
--- src/format.rt:112:25
 cast-layout : tie.Need-cast-layout
 cast-layout c = search needs
 
--- src/format.rt:112:15
 layout-requires : tie.Need-layout-requires
 layout-requires c κs = search needs
 
--- src/format.rt:113:27
 track-of-requires : tie.Need-track-of-requires
 track-of-requires c κs = search needs
 
--- src/format.rt:113:50
 sub-format-from : tie.Need-sub-format-from
 sub-format-from c = search needs
 
--- src/format.rt:113:50
 part-format-from-start : tie.Need-part-format-from-start
 part-format-from-start c = search needs
 
--- src/format.rt:113:50
 part-format-from-end : tie.Need-part-format-from-end
 part-format-from-end c = search needs
 
--- src/format.rt:113:5
 format-from-requires : tie.Need-format-from-requires
 format-from-requires c κs =
     let a = c .before .before .before .before .before .before .before .before in
     (a .pre .0, omega (arith, bound-of _ _ _ (c .before .before .track-of .ensures) (a .pre .1)), search needs, a .pre .3)
 
--- src/format.rt:114:5
 write-label-requires : tie.Need-write-label-requires
 write-label-requires c κs = search needs
 
--- src/format.rt:107:1
 same-length : tie.Need-same-length
 same-length c = search needs
 
--- src/format.rt:107:1
 returns : tie.Need-returns
 returns c =
     let formed = c .before .before .before .before .before .before in

@@ -5,38 +5,30 @@ use Rattle.commands.proofs.state.is_taken.Tie as tie
 use Rattle.commands.proofs.state.is_taken.Reads as reads
 use Rattle.commands.proofs.state.is_taken.Lts as lts
 
--- src/format.rt:60:25
 enum-told : tie.Need-enum-told
 enum-told c = search needs
 
--- src/format.rt:61:23
 enum-told-2 : tie.Need-enum-told-2
 enum-told-2 c = search needs
 
--- src/format.rt:62:28
 enum-told-3 : tie.Need-enum-told-3
 enum-told-3 c = search needs
 
--- src/format.rt:63:28
 enum-told-4 : tie.Need-enum-told-4
 enum-told-4 c = search needs
 
--- src/format.rt:56:1
 returns : tie.Need-returns
 unfolding isTaken
 returns c = rw (c .enum-told .given .1)
 
--- src/format.rt:56:1
 returns-2 : tie.Need-returns-2
 unfolding isTaken
 returns-2 c = rw (c .enum-told2 .given .1)
 
--- src/format.rt:56:1
 returns-3 : tie.Need-returns-3
 unfolding isTaken
 returns-3 c = rw (c .enum-told3 .given .1)
 
--- src/format.rt:56:1
 returns-4 : tie.Need-returns-4
 unfolding isTaken
 returns-4 c = rw (c .enum-told4 .given .1)

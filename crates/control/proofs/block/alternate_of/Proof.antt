@@ -6,23 +6,18 @@ use Rattle.control.proofs.block.alternate_of.Reads as reads
 use Rattle.control.proofs.block.alternate_of.Lts as lts
 use Rattle.control.proofs.block.lba_of.Reads as lba-of-reads
 
--- src/block.rt:53:12
 shared-slice-read-lba-of : tie.Need-shared-slice-read-lba-of
 shared-slice-read-lba-of c = search needs
 
--- src/block.rt:53:22
 shared-slice-read-lba-of-2 : tie.Need-shared-slice-read-lba-of-2
 shared-slice-read-lba-of-2 c = search needs
 
--- src/block.rt:53:32
 shared-slice-read-lba-of-3 : tie.Need-shared-slice-read-lba-of-3
 shared-slice-read-lba-of-3 c = search needs
 
--- src/block.rt:53:5
 lba-of-requires : tie.Need-lba-of-requires
 lba-of-requires c κs = search needs
 
--- src/block.rt:49:1
 returns : tie.Need-returns
 unfolding alternateOf
 returns c = search needs

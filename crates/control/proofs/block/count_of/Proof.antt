@@ -6,16 +6,13 @@ use Rattle.control.proofs.block.count_of.Tie as tie
 use Rattle.control.proofs.block.count_of.Reads as reads
 use Rattle.control.proofs.block.count_of.Lts as lts
 
--- src/block.rt:36:9
 returns : tie.Need-returns
 unfolding countOf
 returns c = search (needs, decide)
 
--- src/block.rt:38:5
 cast-result : tie.Need-cast-result
 cast-result c = search needs
 
--- src/block.rt:32:1
 returns-2 : tie.Need-returns-2
 unfolding countOf
 returns-2 c = search (needs, decide)

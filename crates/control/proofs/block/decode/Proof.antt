@@ -6,35 +6,27 @@ use Rattle.control.proofs.block.decode.Reads as reads
 use Rattle.control.proofs.block.decode.Lts as lts
 use Rattle.control.proofs.block.lba_of.Reads as lba-of-reads
 
--- src/block.rt:20:16
 shared-slice-read-high : tie.Need-shared-slice-read-high
 shared-slice-read-high c = search needs
 
--- src/block.rt:22:17
 shared-slice-read-t4 : tie.Need-shared-slice-read-t4
 shared-slice-read-t4 c = search needs
 
--- src/block.rt:25:36
 shared-slice-read-lba-of : tie.Need-shared-slice-read-lba-of
 shared-slice-read-lba-of c = search needs
 
--- src/block.rt:25:46
 shared-slice-read-lba-of-2 : tie.Need-shared-slice-read-lba-of-2
 shared-slice-read-lba-of-2 c = search needs
 
--- src/block.rt:25:18
 lba-of-requires : tie.Need-lba-of-requires
 lba-of-requires c κs = search needs
 
--- src/block.rt:26:16
 shared-slice-read-t16 : tie.Need-shared-slice-read-t16
 shared-slice-read-t16 c = search needs
 
--- src/block.rt:27:18
 shared-slice-read-t18 : tie.Need-shared-slice-read-t18
 shared-slice-read-t18 c = search needs
 
--- src/block.rt:16:1
 returns : tie.Need-returns
 unfolding blockOf
 returns c = search (needs, c .before .before .lba-of .ensures)

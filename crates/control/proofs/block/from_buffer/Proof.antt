@@ -5,7 +5,6 @@ use Rattle.control.proofs.block.from_buffer.Tie as tie
 use Rattle.control.proofs.block.from_buffer.Reads as reads
 use Rattle.control.proofs.block.from_buffer.Lts as lts
 
--- src/block.rt:42:1
 returns : tie.Need-returns
 unfolding fromBuffer
 returns c = search needs

@@ -6,27 +6,21 @@ use Rattle.control.proofs.buffer.put_front.Reads as reads
 use Rattle.control.proofs.buffer.put_front.Lts as lts
 use Rattle.base.proofs.copy_bytes.Reads as copy-bytes-reads
 
--- src/buffer.rt:22:16
 sub-copy-bytes : tie.Need-sub-copy-bytes
 sub-copy-bytes c = search needs
 
--- src/buffer.rt:22:16
 part-copy-bytes-start : tie.Need-part-copy-bytes-start
 part-copy-bytes-start c = search needs
 
--- src/buffer.rt:22:16
 part-copy-bytes-end : tie.Need-part-copy-bytes-end
 part-copy-bytes-end c = search needs
 
--- src/buffer.rt:22:5
 copy-bytes-requires : tie.Need-copy-bytes-requires
 copy-bytes-requires c κs = search needs
 
--- src/buffer.rt:17:1
 same-length : tie.Need-same-length
 same-length c = search needs
 
--- src/buffer.rt:17:1
 returns : tie.Need-returns
 returns c = front-lent _ _ _ (c .before .before .copy-bytes .ensures)
 

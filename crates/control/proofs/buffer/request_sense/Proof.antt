@@ -11,27 +11,21 @@ use Rattle.control.proofs.buffer.request_sense.Lts as lts
 use Rattle.control.proofs.buffer.put_front.Reads as put-front-reads
 use Rattle.control.proofs.record.drive_at.Reads as drive-at-reads
 
--- src/buffer.rt:40:9
 drive-at-requires : tie.Need-drive-at-requires
 drive-at-requires c κs = search needs
 
--- src/buffer.rt:42:21
 slice-aggregate-put-front : tie.Need-slice-aggregate-put-front
 slice-aggregate-put-front c = search needs
 
--- src/buffer.rt:42:5
 put-front-requires : tie.Need-put-front-requires
 put-front-requires c κs = let e : length (c .before .before .before .drive-at .result .sense) ≡ 4 = search needs in omega arith
 
--- src/buffer.rt:47:21
 mul-t11 : tie.Need-mul-t11
 mul-t11 c = search needs
 
--- src/buffer.rt:36:1
 same-length : tie.Need-same-length
 same-length c = search needs
 
--- src/buffer.rt:36:1
 returns : tie.Need-returns
 unfolding goodOutcome
 returns c =

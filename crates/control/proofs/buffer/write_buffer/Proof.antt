@@ -8,31 +8,24 @@ use Rattle.control.proofs.buffer.write_buffer.Lts as lts
 use Rattle.base.proofs.copy_bytes.Reads as copy-bytes-reads
 use Rattle.control.proofs.record.good.Reads as good-reads
 
--- src/buffer.rt:56:24
 sub-copy-bytes : tie.Need-sub-copy-bytes
 sub-copy-bytes c = search needs
 
--- src/buffer.rt:56:24
 part-copy-bytes-start : tie.Need-part-copy-bytes-start
 part-copy-bytes-start c = search needs
 
--- src/buffer.rt:56:24
 part-copy-bytes-end : tie.Need-part-copy-bytes-end
 part-copy-bytes-end c = search needs
 
--- src/buffer.rt:56:5
 copy-bytes-requires : tie.Need-copy-bytes-requires
 copy-bytes-requires c κs = search needs
 
--- src/buffer.rt:57:5
 good-requires : tie.Need-good-requires
 good-requires c κs = search needs
 
--- src/buffer.rt:52:1
 same-length : tie.Need-same-length
 same-length c = search needs
 
--- src/buffer.rt:52:1
 returns : tie.Need-returns
 returns c = (c .good2 .ensures, c .before .before .before .copy-bytes .ensures ∙ part-lent 0 512 512 _ refl)
 

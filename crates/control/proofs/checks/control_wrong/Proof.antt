@@ -7,16 +7,13 @@ use Rattle.control.proofs.checks.control_wrong.Tie as tie
 use Rattle.control.proofs.checks.control_wrong.Reads as reads
 use Rattle.control.proofs.checks.control_wrong.Lts as lts
 
--- src/checks.rt:40:9
 returns : tie.Need-returns
 unfolding controlWrong
 returns c = search (needs, decide)
 
--- src/checks.rt:43:9
 returns-2 : tie.Need-returns-2
 returns-2 c = wrong-fill _ _ (c .before .before .if1 .left) (c .before .if2 .taken)
 
--- src/checks.rt:35:1
 returns-3 : tie.Need-returns-3
 returns-3 c = wrong-other _ _ (c .before .if1 .left) (c .if2 .left)
 

@@ -5,15 +5,12 @@ use Rattle.control.proofs.checks.interleave_wrong.Tie as tie
 use Rattle.control.proofs.checks.interleave_wrong.Reads as reads
 use Rattle.control.proofs.checks.interleave_wrong.Lts as lts
 
--- src/checks.rt:78:9
 returns : tie.Need-returns
 returns c = search (needs, decide)
 
--- src/checks.rt:80:5
 sub-result : tie.Need-sub-result
 sub-result c = search needs
 
--- src/checks.rt:73:1
 returns-2 : tie.Need-returns-2
 returns-2 c = search (needs, decide)
 

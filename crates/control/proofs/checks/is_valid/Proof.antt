@@ -5,20 +5,16 @@ use Rattle.control.proofs.checks.is_valid.Tie as tie
 use Rattle.control.proofs.checks.is_valid.Reads as reads
 use Rattle.control.proofs.checks.is_valid.Lts as lts
 
--- src/checks.rt:52:30
 enum-told : tie.Need-enum-told
 enum-told c = search needs
 
--- src/checks.rt:53:29
 enum-told-2 : tie.Need-enum-told-2
 enum-told-2 c = search needs
 
--- src/checks.rt:48:1
 returns : tie.Need-returns
 unfolding isValid
 returns c = simp (c .enum-told .given .1)
 
--- src/checks.rt:48:1
 returns-2 : tie.Need-returns-2
 unfolding isValid
 returns-2 c = simp (c .enum-told2 .given .1)

@@ -6,24 +6,19 @@ use Rattle.control.proofs.checks.limits_of.Reads as reads
 use Rattle.control.proofs.checks.limits_of.Lts as lts
 use Rattle.control.proofs.checks.limits_with.Reads as limits-with-reads
 
--- src/checks.rt:109:24
 enum-known-setting : tie.Need-enum-known-setting
 enum-known-setting c = search needs
 
--- src/checks.rt:109:30
 limits-with-requires : tie.Need-limits-with-requires
 limits-with-requires c κs = (c .before .before .before .pre .0 _ (c .before .setting .given .1), search needs)
 
--- src/checks.rt:110:29
 enum-told : tie.Need-enum-told
 enum-told c = search needs
 
--- src/checks.rt:104:1
 returns : tie.Need-returns
 unfolding limitsOf
 returns c = simp (c .limits-with .ensures, c .before .before .setting .given .1)
 
--- src/checks.rt:104:1
 returns-2 : tie.Need-returns-2
 unfolding limitsOf
 returns-2 c = simp (c .enum-told .given .1)

@@ -6,52 +6,42 @@ use Rattle.control.proofs.checks.order.Tie as tie
 use Rattle.control.proofs.checks.order.Reads as reads
 use Rattle.control.proofs.checks.order.Lts as lts
 
--- src/checks.rt:123:9
 returns : tie.Need-returns
 unfolding judged
 returns c = search (needs, decide)
 
--- src/checks.rt:126:9
 returns-2 : tie.Need-returns-2
 unfolding judged
 returns-2 c = search (needs, decide)
 
--- src/checks.rt:129:9
 returns-3 : tie.Need-returns-3
 unfolding judged
 returns-3 c = search (needs, decide)
 
--- src/checks.rt:132:9
 returns-4 : tie.Need-returns-4
 unfolding judged
 returns-4 c = search (needs, decide)
 
--- src/checks.rt:135:9
 returns-5 : tie.Need-returns-5
 unfolding judged
 returns-5 c = search (needs, decide)
 
--- src/checks.rt:138:9
 returns-6 : tie.Need-returns-6
 unfolding judged
 returns-6 c = search (needs, decide)
 
--- src/checks.rt:141:9
 returns-7 : tie.Need-returns-7
 unfolding judged
 returns-7 c = search (needs, decide)
 
--- src/checks.rt:144:9
 returns-8 : tie.Need-returns-8
 unfolding judged
 returns-8 c = search (needs, decide)
 
--- src/checks.rt:147:9
 returns-9 : tie.Need-returns-9
 unfolding judged
 returns-9 c = search (needs, decide)
 
--- src/checks.rt:119:1
 returns-10 : tie.Need-returns-10
 unfolding judged
 returns-10 c = search (needs, decide)

@@ -9,11 +9,9 @@ use Rattle.control.proofs.checks.reach_of.Reads as reads
 use Rattle.control.proofs.checks.reach_of.Lts as lts
 use Rattle.control.proofs.block.count_of.Reads as count-of-reads
 
--- src/checks.rt:68:9
 count-of-requires : tie.Need-count-of-requires
 count-of-requires c κs = search needs
 
--- src/checks.rt:68:9
 returns : tie.Need-returns
 unfolding reach
 returns c =
@@ -21,7 +19,6 @@ returns c =
     let e = c .count-of .ensures in
     (search (needs, decide), omega arith, omega arith)
 
--- src/checks.rt:64:1
 returns-2 : tie.Need-returns-2
 unfolding reach
 returns-2 c = (search (needs, decide), omega arith, omega arith)

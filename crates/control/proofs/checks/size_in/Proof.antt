@@ -5,20 +5,16 @@ use Rattle.control.proofs.checks.size_in.Tie as tie
 use Rattle.control.proofs.checks.size_in.Reads as reads
 use Rattle.control.proofs.checks.size_in.Lts as lts
 
--- src/checks.rt:156:24
 enum-known-setting : tie.Need-enum-known-setting
 enum-known-setting c = search needs
 
--- src/checks.rt:157:29
 enum-told : tie.Need-enum-told
 enum-told c = search needs
 
--- src/checks.rt:152:1
 returns : tie.Need-returns
 unfolding sizeIn
 returns c = simp (c .before .setting .given .1)
 
--- src/checks.rt:152:1
 returns-2 : tie.Need-returns-2
 unfolding sizeIn
 returns-2 c = simp (c .enum-told .given .1)

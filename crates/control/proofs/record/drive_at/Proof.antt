@@ -8,15 +8,12 @@ use Rattle.control.proofs.record.drive_at.Tie as tie
 use Rattle.control.proofs.record.drive_at.Reads as reads
 use Rattle.control.proofs.record.drive_at.Lts as lts
 
--- src/record.rt:25:5
 mul-result : tie.Need-mul-result
 mul-result c = search needs
 
--- src/record.rt:25:5
 array-copy-out-result : tie.Need-array-copy-out-result
 array-copy-out-result c = search needs
 
--- src/record.rt:21:1
 returns : tie.Need-returns
 returns c =
     let a = c .before .args in

@@ -7,23 +7,18 @@ use Rattle.control.proofs.record.failed.Lts as lts
 use Rattle.control.proofs.record.with_sense.Reads as with-sense-reads
 use Rattle.control.proofs.sense.sense_of.Reads as sense-of-reads
 
--- src/record.rt:81:42
 sense-of-requires : tie.Need-sense-of-requires
 sense-of-requires c κs = search needs
 
--- src/record.rt:81:21
 with-sense-requires : tie.Need-with-sense-requires
 with-sense-requires c κs = search needs
 
--- src/record.rt:84:25
 mul-t9 : tie.Need-mul-t9
 mul-t9 c = search needs
 
--- src/record.rt:84:21
 add-t10 : tie.Need-add-t10
 add-t10 c = search needs
 
--- src/record.rt:76:1
 returns : tie.Need-returns
 unfolding failedOutcome withSense withDrive driveAt
 returns c buffer = simp (c .with-sense .ensures, c .before .sense-of .ensures)

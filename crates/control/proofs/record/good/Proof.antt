@@ -7,19 +7,15 @@ use Rattle.control.proofs.record.good.Lts as lts
 use Rattle.control.proofs.record.with_sense.Reads as with-sense-reads
 use Rattle.control.proofs.sense.sense_of.Reads as sense-of-reads
 
--- src/record.rt:97:42
 sense-of-requires : tie.Need-sense-of-requires
 sense-of-requires c κs = search needs
 
--- src/record.rt:97:21
 with-sense-requires : tie.Need-with-sense-requires
 with-sense-requires c κs = search needs
 
--- src/record.rt:100:21
 mul-t8 : tie.Need-mul-t8
 mul-t8 c = search needs
 
--- src/record.rt:92:1
 returns : tie.Need-returns
 unfolding goodOutcome withSense withDrive driveAt
 returns c buffer = simp (c .with-sense .ensures, c .before .sense-of .ensures)

@@ -7,11 +7,9 @@ use Rattle.control.proofs.record.refused.Reads as reads
 use Rattle.control.proofs.record.refused.Lts as lts
 use Rattle.control.proofs.record.bare_answer.Reads as bare-answer-reads
 
--- src/record.rt:75:17
 bare-answer-requires : tie.Need-bare-answer-requires
 bare-answer-requires c κs = search needs
 
--- src/record.rt:70:1
 returns : tie.Need-returns
 unfolding bareOutcome
 returns c buffer = rw (c .bare-answer .ensures) refl

@@ -7,16 +7,13 @@ use Rattle.control.proofs.record.setting_in.Reads as reads
 use Rattle.control.proofs.record.setting_in.Lts as lts
 use Rattle.geometry.proofs.config.setting_of.Reads as setting-of-reads
 
--- src/record.rt:55:9
 setting-of-requires : tie.Need-setting-of-requires
 setting-of-requires c κs = search needs
 
--- src/record.rt:55:9
 returns : tie.Need-returns
 unfolding settingIn
 returns c = search (needs, decide)
 
--- src/record.rt:50:1
 returns-2 : tie.Need-returns-2
 unfolding settingIn
 returns-2 c = search (needs, decide)

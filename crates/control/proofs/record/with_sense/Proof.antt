@@ -7,15 +7,12 @@ use Rattle.control.proofs.record.with_sense.Lts as lts
 use Rattle.control.proofs.record.drive_at.Reads as drive-at-reads
 use Rattle.control.proofs.record.with_drive.Reads as with-drive-reads
 
--- src/record.rt:44:9
 drive-at-requires : tie.Need-drive-at-requires
 drive-at-requires c κs = search needs
 
--- src/record.rt:46:5
 with-drive-requires : tie.Need-with-drive-requires
 with-drive-requires c κs = search needs
 
--- src/record.rt:40:1
 returns : tie.Need-returns
 unfolding withSense sensed
 returns c = search (needs, c .with-drive .ensures, c .before .drive-at .ensures)

@@ -8,27 +8,22 @@ use Rattle.control.proofs.sense.is_addressed.Tie as tie
 use Rattle.control.proofs.sense.is_addressed.Reads as reads
 use Rattle.control.proofs.sense.is_addressed.Lts as lts
 
--- src/sense.rt:12:9
 returns : tie.Need-returns
 unfolding addressed
 returns c = search (needs, decide)
 
--- src/sense.rt:15:9
 returns-2 : tie.Need-returns-2
 unfolding addressed
 returns-2 c = let l : c .before .before .args .code < 25 = omega arith in search (needs, decide)
 
--- src/sense.rt:18:9
 returns-3 : tie.Need-returns-3
 unfolding addressed
 returns-3 c = search (needs, decide)
 
--- src/sense.rt:21:9
 returns-4 : tie.Need-returns-4
 unfolding addressed
 returns-4 c = search (needs, decide)
 
--- src/sense.rt:8:1
 returns-5 : tie.Need-returns-5
 unfolding addressed
 returns-5 c = search (needs, decide)

@@ -7,44 +7,34 @@ use Rattle.control.proofs.sense.sense_of.Reads as reads
 use Rattle.control.proofs.sense.sense_of.Lts as lts
 use Rattle.control.proofs.sense.is_addressed.Reads as is-addressed-reads
 
--- src/sense.rt:30:8
 is-addressed-requires : tie.Need-is-addressed-requires
 is-addressed-requires c κs = search needs
 
--- src/sense.rt:32:13
 add-t5 : tie.Need-add-t5
 add-t5 c = search needs
 
--- src/sense.rt:33:13
 mul-t6 : tie.Need-mul-t6
 mul-t6 c = search needs
 
--- src/sense.rt:33:26
 cast-t8 : tie.Need-cast-t8
 cast-t8 c = search needs
 
--- src/sense.rt:33:13
 add-t9 : tie.Need-add-t9
 add-t9 c = search needs
 
--- src/sense.rt:34:13
 cast-t12 : tie.Need-cast-t12
 cast-t12 c = search needs
 
--- src/sense.rt:35:13
 cast-t14 : tie.Need-cast-t14
 cast-t14 c = search needs
 
--- src/sense.rt:31:9
 returns : tie.Need-returns
 unfolding senseOf
 returns c = search (needs, decide, ← (c .before .before .before .before .is-addressed .ensures))
 
--- src/sense.rt:38:12
 mul-t15 : tie.Need-mul-t15
 mul-t15 c = search needs
 
--- src/sense.rt:26:1
 returns-2 : tie.Need-returns-2
 unfolding senseOf
 returns-2 c = search (needs, decide, ← (c .before .is-addressed .ensures))

@@ -7,50 +7,42 @@ use Rattle.control.proofs.table.entry_of.Lts as lts
 use Rattle.control.proofs.table.has.Reads as has-reads
 use Rattle.control.proofs.table.row_of.Reads as row-of-reads
 
--- src/table.rt:158:9
 row-of-requires : tie.Need-row-of-requires
 row-of-requires c κs = search needs
 
--- src/table.rt:165:16
 has-requires : tie.Need-has-requires
 has-requires c κs = search needs
 
--- src/table.rt:166:16
 has-requires-2 : tie.Need-has-requires-2
 has-requires-2 c κs = search needs
 
--- src/table.rt:167:21
 has-requires-3 : tie.Need-has-requires-3
 has-requires-3 c κs = search needs
 
--- src/table.rt:168:18
 has-requires-4 : tie.Need-has-requires-4
 has-requires-4 c κs = search needs
 
--- src/table.rt:169:15
 has-requires-5 : tie.Need-has-requires-5
 has-requires-5 c κs = search needs
 
--- src/table.rt:170:21
 has-requires-6 : tie.Need-has-requires-6
 has-requires-6 c κs = search needs
 
--- src/table.rt:171:18
 has-requires-7 : tie.Need-has-requires-7
 has-requires-7 c κs = search needs
 
--- src/table.rt:172:18
 has-requires-8 : tie.Need-has-requires-8
 has-requires-8 c κs = search needs
 
--- src/table.rt:173:16
 has-requires-9 : tie.Need-has-requires-9
 has-requires-9 c κs = search needs
 
--- src/table.rt:155:1
+has-requires-10 : tie.Need-has-requires-10
+has-requires-10 c κs = search needs
+
 returns : tie.Need-returns
 unfolding entryFrom
-returns c = simp (c .before .before .before .before .before .before .before .before .has .ensures, c .before .before .before .before .before .before .before .has2 .ensures, c .before .before .before .before .before .before .has3 .ensures, c .before .before .before .before .before .has4 .ensures, c .before .before .before .before .has5 .ensures, c .before .before .before .has6 .ensures, c .before .before .has7 .ensures, c .before .has8 .ensures, c .has9 .ensures) (c .before .before .before .before .before .before .before .before .before .row-of .ensures)
+returns c = simp (c .before .before .before .before .before .before .before .before .before .has .ensures, c .before .before .before .before .before .before .before .before .has2 .ensures, c .before .before .before .before .before .before .before .has3 .ensures, c .before .before .before .before .before .before .has4 .ensures, c .before .before .before .before .before .has5 .ensures, c .before .before .before .before .has6 .ensures, c .before .before .before .has7 .ensures, c .before .before .has8 .ensures, c .before .has9 .ensures, c .has10 .ensures) (c .before .before .before .before .before .before .before .before .before .before .row-of .ensures)
 
 pub entry-of-spec : {M : Type 1} → statement M
 entry-of-spec =
@@ -66,4 +58,5 @@ entry-of-spec =
     has-requires-7
     has-requires-8
     has-requires-9
+    has-requires-10
     returns)

@@ -6,11 +6,9 @@ use Rattle.control.proofs.table.has.Tie as tie
 use Rattle.control.proofs.table.has.Reads as reads
 use Rattle.control.proofs.table.has.Lts as lts
 
--- src/table.rt:151:5
 div-result : tie.Need-div-result
 div-result c = search needs
 
--- src/table.rt:147:1
 returns : tie.Need-returns
 unfolding has
 returns c = refl

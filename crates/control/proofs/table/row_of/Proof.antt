@@ -8,20 +8,16 @@ use Rattle.control.proofs.table.row_of.Tie as tie
 use Rattle.control.proofs.table.row_of.Reads as reads
 use Rattle.control.proofs.table.row_of.Lts as lts
 
--- src/table.rt:142:16
 mul-result : tie.Need-mul-result
 mul-result c = search needs
 
--- src/table.rt:142:16
 array-copy-out-result : tie.Need-array-copy-out-result
 array-copy-out-result c = search needs
 
--- src/table.rt:142:9
 returns : tie.Need-returns
 unfolding rows rowFrom bit
 returns c = rows-read _ _ (c .before .if1 .taken)
 
--- src/table.rt:138:1
 returns-2 : tie.Need-returns-2
 unfolding entryOf entryFrom has
 returns-2 c = rw (List·getD-eq-default table unknown (c .if1 .left))

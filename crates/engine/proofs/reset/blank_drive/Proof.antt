@@ -5,7 +5,6 @@ use Rattle.engine.proofs.reset.blank_drive.Tie as tie
 use Rattle.engine.proofs.reset.blank_drive.Reads as reads
 use Rattle.engine.proofs.reset.blank_drive.Lts as lts
 
--- src/reset.rt:13:1
 returns : tie.Need-returns
 unfolding blankDrive
 returns c = search needs

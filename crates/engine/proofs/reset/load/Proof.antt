@@ -9,39 +9,41 @@ use Rattle.engine.proofs.reset.load.Lts as lts
 use Rattle.engine.proofs.reset.blank_drive.Reads as blank-drive-reads
 use Rattle.geometry.proofs.config.config_in.Reads as config-in-reads
 use Rattle.geometry.proofs.config.label_setting.Reads as label-setting-reads
+use Rattle.geometry.proofs.medium.medium_of.Reads as medium-of-reads
 
--- src/reset.rt:28:9
+medium-of-requires : tie.Need-medium-of-requires
+medium-of-requires c κs = search needs
+
 label-setting-requires : tie.Need-label-setting-requires
 label-setting-requires c κs = search needs
 
--- src/reset.rt:30:29
 enum-told : tie.Need-enum-told
 enum-told c = search needs
 
--- src/reset.rt:30:29
 blank-drive-requires : tie.Need-blank-drive-requires
 blank-drive-requires c κs = search needs
 
--- src/reset.rt:32:20
 enum-told-2 : tie.Need-enum-told-2
 enum-told-2 c = search needs
 
--- src/reset.rt:33:21
 config-in-requires : tie.Need-config-in-requires
-config-in-requires c κs = label-long _ _ (c .before .before .label-setting .ensures) _ (c .enum-told2 .given .1)
+config-in-requires c κs = label-long _ _ _ (c .before .before .label-setting .ensures) _ (c .enum-told2 .given .1)
 
--- src/reset.rt:25:1
 returns : tie.Need-returns
-returns c = c .blank-drive .ensures ∙ load-invalid _ _ (c .before .before .before .label-setting .ensures) (c .before .enum-told .given .1)
+returns c =
+    let s = c .before .before .before in
+    c .blank-drive .ensures ∙ load-invalid _ _ _ _ (s .before .medium-of .ensures) (s .label-setting .ensures) (c .before .enum-told .given .1)
 
--- src/reset.rt:25:1
 returns-2 : tie.Need-returns-2
-returns-2 c = load-valid _ _ (c .before .before .before .label-setting .ensures) _ (c .before .enum-told2 .given .1) _ (c .config-in .ensures)
+returns-2 c =
+    let s = c .before .before .before in
+    load-valid _ _ _ _ (s .before .medium-of .ensures) (s .label-setting .ensures) _ (c .before .enum-told2 .given .1) _ (c .config-in .ensures)
 
 pub load-spec : {M : Type 1} → statement M
 load-spec =
     tie.close
     (tie.spec
+    medium-of-requires
     label-setting-requires
     enum-told
     blank-drive-requires

@@ -8,15 +8,12 @@ use Rattle.engine.proofs.reset.reset.Lts as lts
 use Rattle.control.proofs.record.bare_answer.Reads as bare-answer-reads
 use Rattle.engine.proofs.reset.fresh.Reads as fresh-reads
 
--- src/reset.rt:56:21
 fresh-requires : tie.Need-fresh-requires
 fresh-requires c κs = search needs
 
--- src/reset.rt:57:17
 bare-answer-requires : tie.Need-bare-answer-requires
 bare-answer-requires c κs = search needs
 
--- src/reset.rt:52:1
 returns : tie.Need-returns
 unfolding resetOf bareOutcome
 returns c = rw (c .bare-answer .ensures, c .before .fresh .ensures)

@@ -8,53 +8,41 @@ use Rattle.engine.proofs.run.carry_out.Lts as lts
 use Rattle.engine.proofs.run.with_parameters.Reads as with-parameters-reads
 use Rattle.engine.proofs.run.without_parameters.Reads as without-parameters-reads
 
--- src/run.rt:121:24
 enum-known-setting : tie.Need-enum-known-setting
 enum-known-setting c = search needs
 
--- src/run.rt:121:30
 with-parameters-requires : tie.Need-with-parameters-requires
 with-parameters-requires c κs =
     let a = c .before .before .before .before .before .before .before .before .before .before in
     (a .pre .0, a .pre .1, a .pre .2 ∙ c .before .before .before .before .setting .given .1, a .pre .3)
 
--- src/run.rt:122:59
 enum-told : tie.Need-enum-told
 enum-told c = search needs
 
--- src/run.rt:122:29
 without-parameters-requires : tie.Need-without-parameters-requires
 without-parameters-requires c κs = search needs
 
--- src/run.rt:107:1
 same-length : tie.Need-same-length
 same-length c = search needs
 
--- src/run.rt:107:1
 same-length-2 : tie.Need-same-length-2
 same-length-2 c = search needs
 
--- src/run.rt:107:1
 same-length-3 : tie.Need-same-length-3
 same-length-3 c = search needs
 
--- src/run.rt:107:1
 returns : tie.Need-returns
 returns c = carried-as _ _ _ _ _ _ _ _ _ _ _ (c .before .before .before .before .before .before .before .before .before .before .before .setting .given .1) (c .before .before .before .before .before .before .with-parameters .ensures)
 
--- src/run.rt:107:1
 same-length-4 : tie.Need-same-length-4
 same-length-4 c = search needs
 
--- src/run.rt:107:1
 same-length-5 : tie.Need-same-length-5
 same-length-5 c = search needs
 
--- src/run.rt:107:1
 same-length-6 : tie.Need-same-length-6
 same-length-6 c = search needs
 
--- src/run.rt:107:1
 returns-2 : tie.Need-returns-2
 returns-2 c = carried-as _ _ _ _ _ _ _ _ _ _ _ (c .before .before .before .before .before .before .before .before .enum-told .given .1) (c .before .before .before .before .without-parameters .ensures)
 

@@ -11,46 +11,46 @@ use Rattle.control.proofs.block.decode.Reads as decode-reads
 use Rattle.control.proofs.record.bare_answer.Reads as bare-answer-reads
 use Rattle.engine.proofs.run.on_images.Reads as on-images-reads
 
--- src/run.rt:196:21
 bare-answer-requires : tie.Need-bare-answer-requires
 bare-answer-requires c κs = search needs
 
--- src/run.rt:194:9
 returns : tie.Need-returns
-returns c = execute-refused _ _ _ _ _ _ _ (c .before .if1 .taken) (bare-is _ _ _ (c .bare-answer .ensures))
+returns c = execute-refused _ _ _ _ _ _ (c .before .if1 .taken) (bare-is _ _ _ (c .bare-answer .ensures))
 
--- src/run.rt:204:9
 decode-requires : tie.Need-decode-requires
 decode-requires c κs = search needs
 
--- src/run.rt:205:9
 slice-aggregate-on-images : tie.Need-slice-aggregate-on-images
 slice-aggregate-on-images c = search needs
 
--- src/run.rt:202:9
 on-images-requires : tie.Need-on-images-requires
 on-images-requires c κs =
-    let a = c .before .before .before .before .before .before .before .before .before .before .before .before .before .args in
-    let known = c .before .before .before .before .before .before .before .before .before .before .before .before .shared-slice-known .given in
-    let fields = block-fields _ _ (c .before .before .before .before .decode .ensures) (λ i. omega (arith, known i)) in
-    let whole : length (a .c .buffer) ≡ 512 = search needs in
+    let d = c .before .before .before .before .before .before in
+    let bytes = d .before .before .before .before .before .before .before .before .before .before in
+    let fields = block-fields _ _ (d .decode .ensures) (λ i. omega (arith, bytes .shared-slice-known .given i)) in
+    let whole : length (bytes .before .args .c .buffer) ≡ 512 = search needs in
     (fields .0, fields .1, whole)
 
--- src/run.rt:183:1
 same-length : tie.Need-same-length
 same-length c = search needs
 
--- src/run.rt:183:1
 same-length-2 : tie.Need-same-length-2
 same-length-2 c = search needs
 
--- src/run.rt:183:1
 same-length-3 : tie.Need-same-length-3
 same-length-3 c = search needs
 
--- src/run.rt:183:1
+same-length-4 : tie.Need-same-length-4
+same-length-4 c = search needs
+
+same-length-5 : tie.Need-same-length-5
+same-length-5 c = search needs
+
 returns-2 : tie.Need-returns-2
-returns-2 c = execute-six _ _ _ _ _ _ (c .before .before .before .before .before .before .before .before .before .before .before .before .before .before .before .before .before .if1 .left) _ (c .before .before .before .before .before .before .before .before .before .before .before .before .before .before .decode .ensures) _ (c .before .before .before .before .before .before .before .before .before .on-images .ensures)
+returns-2 c =
+    let o = c .before .before .before .before .before .before .before .before .before .before .before .before .before in
+    let d = o .before .before .before .before .before .before .before in
+    execute-six _ _ _ _ _ (d .before .before .before .if1 .left) _ (d .decode .ensures) _ (o .on-images .ensures)
 
 pub execute-spec : {M : Type 1} → statement M
 execute-spec =
@@ -64,4 +64,6 @@ execute-spec =
     same-length
     same-length-2
     same-length-3
+    same-length-4
+    same-length-5
     returns-2)

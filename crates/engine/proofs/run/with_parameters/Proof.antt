@@ -24,37 +24,29 @@ use Rattle.control.proofs.buffer.write_buffer.Reads as write-buffer-reads
 use Rattle.control.proofs.record.failed.Reads as failed-reads
 use Rattle.control.proofs.record.good.Reads as good-reads
 
--- src/run.rt:57:31
 enum-told : tie.Need-enum-told
 enum-told c = search needs
 
--- src/run.rt:57:31
 good-requires : tie.Need-good-requires
 good-requires c κs = search needs
 
--- src/run.rt:58:33
 enum-told-2 : tie.Need-enum-told-2
 enum-told-2 c = search needs
 
--- src/run.rt:58:33
 good-requires-2 : tie.Need-good-requires-2
 good-requires-2 c κs = search needs
 
--- src/run.rt:59:63
 enum-told-3 : tie.Need-enum-told-3
 enum-told-3 c = search needs
 
--- src/run.rt:59:34
 request-sense-requires : tie.Need-request-sense-requires
 request-sense-requires c κs =
     let a = c .before .before .before .before .before .before .before in
     sense-admits (a .pre .0) (a .pre .1 ∙ c .before .enum-told3 .given .1)
 
--- src/run.rt:60:60
 enum-told-4 : tie.Need-enum-told-4
 enum-told-4 c = search needs
 
--- src/run.rt:60:33
 format-drive-requires : tie.Need-format-drive-requires
 unfolding driveAt
 format-drive-requires c κs =
@@ -62,22 +54,18 @@ format-drive-requires c κs =
     let k = drive-admits _ (a .pre .0) (a .pre .2) (a .pre .1 ∙ c .before .before .enum-told4 .given .1) in
     (k .0, k .1, k .2, k .3, k .4, a .pre .3)
 
--- src/run.rt:61:58
 enum-told-5 : tie.Need-enum-told-5
 enum-told-5 c = search needs
 
--- src/run.rt:61:32
 check-track-requires : tie.Need-check-track-requires
 unfolding driveAt
 check-track-requires c κs =
     let a = c .before .before .before .before .before .before .before in
     check-admits _ (a .pre .0) (a .pre .2) (a .pre .1 ∙ c .before .enum-told5 .given .1)
 
--- src/run.rt:62:60
 enum-told-6 : tie.Need-enum-told-6
 enum-told-6 c = search needs
 
--- src/run.rt:62:33
 format-sound-requires : tie.Need-format-sound-requires
 unfolding driveAt
 format-sound-requires c κs =
@@ -85,22 +73,18 @@ format-sound-requires c κs =
     let k = sound-admits _ (a .pre .0) (a .pre .2) (a .pre .1 ∙ c .before .before .enum-told6 .given .1) in
     (k .0, k .1, k .2, k .3, k .4, a .pre .3)
 
--- src/run.rt:63:61
 enum-told-7 : tie.Need-enum-told-7
 enum-told-7 c = search needs
 
--- src/run.rt:63:36
 format-bad-requires : tie.Need-format-bad-requires
 unfolding driveAt
 format-bad-requires c κs =
     let a = c .before .before .before .before .before .before .before in
     bad-admits _ (a .pre .0) (a .pre .2) (a .pre .1 ∙ c .before .enum-told7 .given .1)
 
--- src/run.rt:64:45
 enum-told-8 : tie.Need-enum-told-8
 enum-told-8 c = search needs
 
--- src/run.rt:64:26
 read-requires : tie.Need-read-requires
 unfolding driveAt
 read-requires c κs =
@@ -108,11 +92,9 @@ read-requires c κs =
     let k = read-admits _ (a .pre .0) (a .pre .2) (a .pre .1 ∙ c .before .before .before .enum-told8 .given .1) in
     (k .0, k .1, k .2, k .3, a .pre .3)
 
--- src/run.rt:65:47
 enum-told-9 : tie.Need-enum-told-9
 enum-told-9 c = search needs
 
--- src/run.rt:65:27
 write-requires : tie.Need-write-requires
 unfolding driveAt
 write-requires c κs =
@@ -120,19 +102,15 @@ write-requires c κs =
     let k = write-admits _ (a .pre .0) (a .pre .2) (a .pre .1 ∙ c .before .before .enum-told9 .given .1) in
     (k .0, k .1, k .2, k .3, a .pre .3)
 
--- src/run.rt:66:26
 enum-told-10 : tie.Need-enum-told-10
 enum-told-10 c = search needs
 
--- src/run.rt:66:26
 good-requires-3 : tie.Need-good-requires-3
 good-requires-3 c κs = search needs
 
--- src/run.rt:67:68
 enum-told-11 : tie.Need-enum-told-11
 enum-told-11 c = search needs
 
--- src/run.rt:67:37
 assign-alternate-requires : tie.Need-assign-alternate-requires
 unfolding driveAt
 assign-alternate-requires c κs =
@@ -140,190 +118,149 @@ assign-alternate-requires c κs =
     let k = assign-admits _ (a .pre .0) (a .pre .2) (a .pre .1 ∙ c .before .before .enum-told11 .given .1) in
     (k .0, k .1, k .2, k .3, k .4, k .5, a .pre .3)
 
--- src/run.rt:68:61
 enum-told-12 : tie.Need-enum-told-12
 enum-told-12 c = search needs
 
--- src/run.rt:68:33
 write-buffer-requires : tie.Need-write-buffer-requires
 write-buffer-requires c κs =
     let a = c .before .before .before .before .before .before .before in
     let k = buffer-write-admits (a .pre .0) (a .pre .1 ∙ c .before .enum-told12 .given .1) in
     (k .0, a .pre .3, k .1)
 
--- src/run.rt:69:59
 enum-told-13 : tie.Need-enum-told-13
 enum-told-13 c = search needs
 
--- src/run.rt:69:32
 read-buffer-requires : tie.Need-read-buffer-requires
 read-buffer-requires c κs =
     let a = c .before .before .before .before .before .before .before .before in
     let k = buffer-read-admits (a .pre .0) (a .pre .1 ∙ c .before .before .enum-told13 .given .1) in
     (k .0, a .pre .3, k .1)
 
--- src/run.rt:70:61
 enum-told-14 : tie.Need-enum-told-14
 enum-told-14 c = search needs
 
--- src/run.rt:70:32
 initialize-requires : tie.Need-initialize-requires
 initialize-requires c κs =
     let a = c .before .before .before .before .before .before .before in
     initialize-admits (a .pre .0) (a .pre .1 ∙ c .before .enum-told14 .given .1)
 
--- src/run.rt:71:29
 enum-told-15 : tie.Need-enum-told-15
 enum-told-15 c = search needs
 
--- src/run.rt:71:29
 failed-requires : tie.Need-failed-requires
 failed-requires c κs = search needs
 
--- src/run.rt:42:1
 returns : tie.Need-returns
 unfolding carryOut
 returns c = well-carries _ _ _ _ _ _ _ _ _ (c .before .enum-told .given .1) _ refl (c .good2 .ensures _)
 
--- src/run.rt:42:1
 returns-2 : tie.Need-returns-2
 unfolding carryOut
 returns-2 c = well-carries _ _ _ _ _ _ _ _ _ (c .before .enum-told2 .given .1) _ refl (c .good3 .ensures _)
 
--- src/run.rt:42:1
 same-length : tie.Need-same-length
 same-length c = search needs
 
--- src/run.rt:42:1
 returns-3 : tie.Need-returns-3
 returns-3 c =
     let k = c .before .before .request-sense .ensures in
     sense-carries _ _ _ _ _ _ _ _ (c .before .before .before .before .enum-told3 .given .1) _ (k .0 _) (k .1) (k .2)
 
--- src/run.rt:42:1
 same-length-2 : tie.Need-same-length-2
 same-length-2 c = search needs
 
--- src/run.rt:42:1
 same-length-3 : tie.Need-same-length-3
 same-length-3 c = search needs
 
--- src/run.rt:42:1
 returns-4 : tie.Need-returns-4
 unfolding carryOut onDisk
 returns-4 c = carries _ _ _ _ _ _ _ _ _ (c .before .before .before .before .before .enum-told4 .given .1) _ refl _ (c .before .before .format-drive .ensures)
 
--- src/run.rt:42:1
 same-length-4 : tie.Need-same-length-4
 same-length-4 c = search needs
 
--- src/run.rt:42:1
 returns-5 : tie.Need-returns-5
 unfolding carryOut onDisk
 returns-5 c = carries _ _ _ _ _ _ _ _ _ (c .before .before .enum-told5 .given .1) _ refl _ (c .check-track .ensures _)
 
--- src/run.rt:42:1
 same-length-5 : tie.Need-same-length-5
 same-length-5 c = search needs
 
--- src/run.rt:42:1
 same-length-6 : tie.Need-same-length-6
 same-length-6 c = search needs
 
--- src/run.rt:42:1
 returns-6 : tie.Need-returns-6
 unfolding carryOut onDisk
 returns-6 c = carries _ _ _ _ _ _ _ _ _ (c .before .before .before .before .before .enum-told6 .given .1) _ refl _ (c .before .before .format-sound .ensures)
 
--- src/run.rt:42:1
 same-length-7 : tie.Need-same-length-7
 same-length-7 c = search needs
 
--- src/run.rt:42:1
 returns-7 : tie.Need-returns-7
 unfolding carryOut onDisk
 returns-7 c = carries _ _ _ _ _ _ _ _ _ (c .before .before .before .before .enum-told7 .given .1) _ refl _ (c .before .before .format-bad .ensures _)
 
--- src/run.rt:42:1
 same-length-8 : tie.Need-same-length-8
 same-length-8 c = search needs
 
--- src/run.rt:42:1
 same-length-9 : tie.Need-same-length-9
 same-length-9 c = search needs
 
--- src/run.rt:42:1
 same-length-10 : tie.Need-same-length-10
 same-length-10 c = search needs
 
--- src/run.rt:42:1
 returns-8 : tie.Need-returns-8
 returns-8 c = read-carries _ _ _ _ _ _ _ _ _ (c .before .before .before .before .before .before .before .before .enum-told8 .given .1) (c .before .before .before .before .read .ensures)
 
--- src/run.rt:42:1
 same-length-11 : tie.Need-same-length-11
 same-length-11 c = search needs
 
--- src/run.rt:42:1
 same-length-12 : tie.Need-same-length-12
 same-length-12 c = search needs
 
--- src/run.rt:42:1
 returns-9 : tie.Need-returns-9
 returns-9 c = write-carries _ _ _ _ _ _ _ _ _ (c .before .before .before .before .before .before .before .enum-told9 .given .1) (c .before .before .before .before .write .ensures)
 
--- src/run.rt:42:1
 returns-10 : tie.Need-returns-10
 unfolding carryOut
 returns-10 c = well-carries _ _ _ _ _ _ _ _ _ (c .before .enum-told10 .given .1) _ refl (c .good4 .ensures _)
 
--- src/run.rt:42:1
 same-length-13 : tie.Need-same-length-13
 same-length-13 c = search needs
 
--- src/run.rt:42:1
 same-length-14 : tie.Need-same-length-14
 same-length-14 c = search needs
 
--- src/run.rt:42:1
 returns-11 : tie.Need-returns-11
 unfolding carryOut onDisk
 returns-11 c = carries _ _ _ _ _ _ _ _ _ (c .before .before .before .before .before .enum-told11 .given .1) _ refl _ (c .before .before .assign-alternate .ensures)
 
--- src/run.rt:42:1
 same-length-15 : tie.Need-same-length-15
 same-length-15 c = search needs
 
--- src/run.rt:42:1
 returns-12 : tie.Need-returns-12
 returns-12 c =
     let k = c .before .before .write-buffer .ensures in
     buffered-carries _ _ _ _ _ _ _ _ (c .before .before .before .before .enum-told12 .given .1) _ (k .1) (k .0 _)
 
--- src/run.rt:42:1
 same-length-16 : tie.Need-same-length-16
 same-length-16 c = search needs
 
--- src/run.rt:42:1
 same-length-17 : tie.Need-same-length-17
 same-length-17 c = search needs
 
--- src/run.rt:42:1
 returns-13 : tie.Need-returns-13
 returns-13 c =
     let k = c .before .before .read-buffer .ensures in
     buffer-carries _ _ _ _ _ _ _ _ (c .before .before .before .before .before .enum-told13 .given .1) _ (c .before .before .before .before .before .before .before .before .before .before .before .pre .3) (k .0 _) (k .1)
 
--- src/run.rt:42:1
 same-length-18 : tie.Need-same-length-18
 same-length-18 c = search needs
 
--- src/run.rt:42:1
 returns-14 : tie.Need-returns-14
 unfolding carryOut
 returns-14 c = carries _ _ _ _ _ _ _ _ _ (c .before .before .enum-told14 .given .1) _ refl _ (c .initialize .ensures _)
 
--- src/run.rt:42:1
 returns-15 : tie.Need-returns-15
 unfolding carryOut
 returns-15 c = failing-carries _ _ _ _ _ _ _ _ _ (c .before .enum-told15 .given .1) _ refl (c .failed .ensures _)

@@ -10,56 +10,44 @@ use Rattle.geometry.proofs.config.label_holds.Lts as lts
 use Rattle.base.proofs.same_bytes.Reads as same-bytes-reads
 use Rattle.geometry.proofs.config.label_setting.Reads as label-setting-reads
 
--- src/config.rt:145:9
 label-setting-requires : tie.Need-label-setting-requires
 label-setting-requires c κs = search needs
 
--- src/config.rt:147:29
 enum-told : tie.Need-enum-told
 enum-told c = search needs
 
--- src/config.rt:148:41
 enum-told-2 : tie.Need-enum-told-2
 enum-told-2 c = search needs
 
--- src/config.rt:148:41
 sub-same-bytes : tie.Need-sub-same-bytes
 sub-same-bytes c = search needs
 
--- src/config.rt:148:41
 part-same-bytes-start : tie.Need-part-same-bytes-start
 part-same-bytes-start c = search needs
 
--- src/config.rt:148:41
 part-same-bytes-end : tie.Need-part-same-bytes-end
-part-same-bytes-end c = omega (arith, label-long _ _ (c .before .before .label-setting .ensures) _ (c .enum-told2 .given .1))
+part-same-bytes-end c = omega (arith, label-long _ _ _ (c .before .before .label-setting .ensures) _ (c .enum-told2 .given .1))
 
--- src/config.rt:148:56
 sub-same-bytes-2 : tie.Need-sub-same-bytes-2
 sub-same-bytes-2 c = search needs
 
--- src/config.rt:148:56
 part-same-bytes-start-2 : tie.Need-part-same-bytes-start-2
 part-same-bytes-start-2 c = search needs
 
--- src/config.rt:148:56
 part-same-bytes-end-2 : tie.Need-part-same-bytes-end-2
 part-same-bytes-end-2 c = search needs
 
--- src/config.rt:148:30
 same-bytes-requires : tie.Need-same-bytes-requires
 same-bytes-requires c κs = search needs
 
--- src/config.rt:142:1
 returns : tie.Need-returns
-returns c = holds-none _ _ (c .before .before .label-setting .ensures) _ (c .enum-told .given .1)
+returns c = holds-none _ _ _ (c .before .before .label-setting .ensures) _ (c .enum-told .given .1)
 
--- src/config.rt:142:1
 returns-2 : tie.Need-returns-2
 returns-2 c =
     let told = c .before .before .before .before in
-    let ten : length (told .before .before .before .before .args .t2) ≡ 10 = search needs in
-    holds-ten _ _ (told .before .before .label-setting .ensures) _ _ ten (told .enum-told2 .given .1) _ (c .same-bytes .ensures)
+    let ten : length (told .before .before .before .before .args .t3) ≡ 10 = search needs in
+    holds-ten _ _ _ (told .before .before .label-setting .ensures) _ _ ten (told .enum-told2 .given .1) _ (c .same-bytes .ensures)
 
 pub label-holds-spec : {M : Type 1} → statement M
 label-holds-spec =

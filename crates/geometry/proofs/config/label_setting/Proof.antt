@@ -4,7 +4,7 @@ use Rattle.geometry.proofs.config.label_setting.Statement.{statement}
 use Rattle.geometry.proofs.config.label_setting.Tie as tie
 
 returns : tie.Need-returns
-returns c = label-short _ (c .if1 .taken)
+returns c = label-short _ _ (c .if1 .taken)
 
 sub-same-bytes : tie.Need-sub-same-bytes
 sub-same-bytes c = search needs
@@ -22,7 +22,7 @@ same-bytes-requires : tie.Need-same-bytes-requires
 same-bytes-requires c κs = search needs
 
 returns-2 : tie.Need-returns-2
-returns-2 c = label-other _ _ (c .before .same-bytes .ensures) (c .if2 .taken)
+returns-2 c = label-other _ _ _ (c .before .same-bytes .ensures) (c .if2 .taken)
 
 config-in-requires : tie.Need-config-in-requires
 config-in-requires c κs = search needs
@@ -32,7 +32,7 @@ setting-of-requires c κs = search needs
 
 returns-3 : tie.Need-returns-3
 returns-3 c =
-    label-zeros _ _ (c .before .before .before .same-bytes .ensures) (c .before .before .if2 .left) _ (c .before .config-in .ensures) _
+    label-zeros _ _ _ (c .before .before .before .same-bytes .ensures) (c .before .before .if2 .left) _ (c .before .config-in .ensures) _
     (c .setting-of .ensures)
 
 pub label-setting-spec : {M : Type 1} → statement M

@@ -1,69 +1,50 @@
+use Rattle.geometry.proofs.Settings.{size-below, size-within, fields-fit, unfit-invalid, fit-setting}
 use borrow.Author.Needs.{needs}
-use Rattle.base.proofs.Decide.{decide}
-use Rattle.geometry.specs.Config.{settingBy}
-use Rattle.geometry.proofs.Settings.{size-within}
 use Rattle.geometry.proofs.config.setting_by.Statement.{statement}
 use Rattle.geometry.proofs.config.setting_by.Tie as tie
+use Rattle.geometry.proofs.config.setting_by.Reads as reads
+use Rattle.geometry.proofs.config.setting_by.Lts as lts
+use Rattle.geometry.proofs.config.fields_in.Reads as fields-in-reads
+use Rattle.geometry.proofs.config.fitted.Reads as fitted-reads
+use Rattle.geometry.proofs.config.size_for.Reads as size-for-reads
+use Rattle.geometry.proofs.config.sized.Reads as sized-reads
+use Rattle.geometry.proofs.medium.ranges_of.Reads as ranges-of-reads
+
+ranges-of-requires : tie.Need-ranges-of-requires
+ranges-of-requires c κs = search needs
+
+fields-in-requires : tie.Need-fields-in-requires
+fields-in-requires c κs = search needs
 
 returns : tie.Need-returns
-unfolding settingBy
-returns c = search (needs, decide)
-
-returns-2 : tie.Need-returns-2
-unfolding settingBy
-returns-2 c = search (needs, decide)
-
-returns-3 : tie.Need-returns-3
-unfolding settingBy
-returns-3 c = search (needs, decide)
-
-returns-4 : tie.Need-returns-4
-unfolding settingBy
-returns-4 c = search (needs, decide)
-
-returns-5 : tie.Need-returns-5
-unfolding settingBy
-returns-5 c = search (needs, decide)
-
-returns-6 : tie.Need-returns-6
-unfolding settingBy
-returns-6 c = search (needs, decide)
-
-returns-7 : tie.Need-returns-7
-unfolding settingBy
-returns-7 c = search (needs, decide)
-
-returns-8 : tie.Need-returns-8
-unfolding settingBy
-returns-8 c = search (needs, decide)
-
-returns-9 : tie.Need-returns-9
-unfolding settingBy
-returns-9 c = search (needs, decide)
+returns c = unfit-invalid _ _ _ _ _ _ _ (c .before .before .ranges-of .ensures) _ (c .before .fields-in .ensures) _ (c .if1 .taken)
 
 size-for-requires : tie.Need-size-for-requires
-size-for-requires c κs = search needs
+size-for-requires c κs = size-below _ _ _ _ _ _ (fields-fit _ _ _ _ _ _ _ (c .before .before .ranges-of .ensures) _ (c .before .fields-in .ensures) (c .if1 .left))
+
+sized-requires : tie.Need-sized-requires
+sized-requires c κs = search needs
 
 fitted-requires : tie.Need-fitted-requires
-fitted-requires c κs = size-within _ _ _ _ (c .size-for .ensures) (search needs) (search needs) (search needs) (search needs)
+fitted-requires c κs =
+    let at = c .before .before in
+    rw (c .sized .ensures)
+    (size-within _ _ _ _ _ _ (fields-fit _ _ _ _ _ _ _ (at .before .before .ranges-of .ensures) _ (at .before .fields-in .ensures) (at .if1 .left)) _ (c .before .size-for .ensures))
 
-returns-10 : tie.Need-returns-10
-unfolding settingBy
-returns-10 c = search (needs, decide, ← (c .before .size-for .ensures), c .fitted .ensures)
+returns-2 : tie.Need-returns-2
+returns-2 c =
+    let at = c .before .before .before in
+    fit-setting _ _ _ _ _ _ _ (at .before .before .ranges-of .ensures) _ (at .before .fields-in .ensures) _ (at .if1 .left) _ (c .before .before .size-for .ensures)
+    _ (c .before .sized .ensures) _ (c .fitted .ensures)
 
 pub setting-by-spec : {M : Type 1} → statement M
 setting-by-spec =
     tie.close
     (tie.spec
+    ranges-of-requires
+    fields-in-requires
     returns
-    returns-2
-    returns-3
-    returns-4
-    returns-5
-    returns-6
-    returns-7
-    returns-8
-    returns-9
     size-for-requires
+    sized-requires
     fitted-requires
-    returns-10)
+    returns-2)

@@ -1,8 +1,7 @@
 use borrow.Author.Needs.{needs}
-use Rattle.base.proofs.Decide.{decide}
 use mathlib.Core.Path.{_≡_}
 use lib.ListN.{length}
-use Rattle.geometry.specs.Config.{settingOf}
+use Rattle.geometry.proofs.Settings.{setting-of-ten}
 use Rattle.geometry.proofs.config.setting_of.Statement.{statement}
 use Rattle.geometry.proofs.config.setting_of.Tie as tie
 
@@ -31,10 +30,9 @@ setting-by-requires : tie.Need-setting-by-requires
 setting-by-requires c κs = search needs
 
 returns : tie.Need-returns
-unfolding settingOf
 returns c =
-    let e : length (c .before .before .args .t1) ≡ 10 = search needs in
-    search (needs, decide, ← (c .before .two-bytes .ensures), c .setting-by .ensures)
+    let e : length (c .before .before .args .t2) ≡ 10 = search needs in
+    setting-of-ten _ _ _ e _ (c .before .two-bytes .ensures) _ (c .setting-by .ensures)
 
 pub setting-of-spec : {M : Type 1} → statement M
 setting-of-spec =

@@ -1,14 +1,10 @@
-use borrow.Author.Needs.{needs}
 use native.Mathlib.Omega.{arith}
 use Rattle.geometry.proofs.Settings.{size-row}
+use borrow.Author.Needs.{needs}
 use Rattle.geometry.proofs.config.size_for.Statement.{statement}
 use Rattle.geometry.proofs.config.size_for.Tie as tie
-
-sub-row : tie.Need-sub-row
-sub-row c = search needs
-
-cast-row : tie.Need-cast-row
-cast-row c = search needs
+use Rattle.geometry.proofs.config.size_for.Reads as reads
+use Rattle.geometry.proofs.config.size_for.Lts as lts
 
 mul-result : tie.Need-mul-result
 mul-result c = search needs
@@ -20,4 +16,4 @@ returns : tie.Need-returns
 returns c = size-row _ _ (omega arith)
 
 pub size-for-spec : {M : Type 1} → statement M
-size-for-spec = tie.close (tie.spec sub-row cast-row mul-result array-copy-out-result returns)
+size-for-spec = tie.close (tie.spec mul-result array-copy-out-result returns)
