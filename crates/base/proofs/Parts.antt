@@ -1,12 +1,12 @@
 -- Laws of parts, of a list with a part replaced, and of rows of one width.
 use mathlib.Core.Path.{_≡_, refl, sym, ap, _∙_}
 use mathlib.Core.Logic.{_⊎_, inl, inr}
-use mathlib.Core.List.{List, [], _∷_, _++_, append-assoc}
+use mathlib.Core.List.{List, [], _∷_, _++_, append-nil, append-assoc}
 use Prim.Native.Nat.{ℕ, zero, suc, _+_, _-_, _*_, _≤_, _<_}
 use native.Mathlib.Omega.{arith}
 use native.Mathlib.Decide.{decLt}
-use native.Mathlib.Nat.{mul-le-mul-right, zero-mul, eq-or-lt-of-le, le-of-suc-le-suc}
-use lib.ListN.{length, take, drop, getD, length-append, length-take, length-drop, take-append-drop}
+use native.Mathlib.Nat.{mul-le-mul-right, zero-mul, add-zero, eq-or-lt-of-le, le-of-suc-le-suc}
+use lib.ListN.{length, take, drop, getD, length-append, length-take, length-drop, take-append-drop, drop-of-length-le}
 use lib.Seq.{take-append-le, drop-append-le, take-at, drop-at, take-take, drop-drop, drop-append-add, length-take-le, take-add, getD-take, getD-drop}
 use borrow.Rule.Slice.PartMut.{putMid, post-is}
 use Rattle.base.specs.Part.{part, splice, rows}
@@ -27,6 +27,11 @@ length-part at size xs h = simp (length-take, length-drop) (omega arith)
 pub length-splice : (at : ℕ) (ys xs : List ℕ) → at + length ys ≤ length xs → length (splice at ys xs) ≡ length xs
 unfolding splice
 length-splice at ys xs h = simp (length-append, length-take, length-drop) (omega arith)
+
+-- all of a list replaced
+pub splice-all : (ys xs : List ℕ) → length ys ≡ length xs → splice 0 ys xs ≡ ys
+unfolding splice
+splice-all ys xs h = ap (λ (r : List ℕ). ys ++ r) (drop-of-length-le xs {i = 0 + length ys} (omega arith)) ∙ append-nil ys
 
 -- ---- what a lent part is, and what stands after it was lent and changed
 pub part-lent : (a e size : ℕ) (xs : List ℕ) → a + size ≡ e → take (e - a) (drop a xs) ≡ part a size xs
@@ -163,3 +168,7 @@ part-row row w (suc n) i b size h l k = by (eq-or-lt-of-le (le-of-suc-le-suc l))
     by (inr l′) ih =
         part-left (i * w + b) size (rows row n) (row n) (omega (arith, length-rows row w n h, cell-in w i n l′))
         ∙ ih l′
+
+-- the front of row i
+pub row-front : (row : ℕ → List ℕ) (w n i size : ℕ) → ((j : ℕ) → length (row j) ≡ w) → i < n → size ≤ w → part (i * w) size (rows row n) ≡ part 0 size (row i)
+row-front row w n i size h l k = ap (λ (b : ℕ). part b size (rows row n)) (sym (add-zero (i * w))) ∙ part-row row w n i 0 size h l (omega arith)

@@ -1,6 +1,7 @@
 pub mod Ids
 pub mod Images
 pub mod Formats
+pub mod Steps
 pub mod Sounds
 pub mod Finds
 pub mod Used

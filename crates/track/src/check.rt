@@ -3,8 +3,8 @@ use crate::find::Where;
 use crate::find::where_is;
 use crate::id::Id;
 use crate::id::State;
+use crate::id::id_bytes;
 use crate::id::id_for;
-use crate::id::write_id;
 use geometry::params::Params;
 use geometry::params::Track;
 ghost use mathlib.Core.Path.{_≡_};
@@ -35,8 +35,7 @@ fn id_number(id: Id) -> u64
     requires { ⌜ id .partner .0 < 65536 ⌝ }
     ensures { λ r. ⌜ r ≡ numberOf (idBytes id) ⌝ }
 {
-    let mut bytes = [0u8; 8];
-    write_id(&mut bytes, id);
+    let bytes = id_bytes(id);
     number_of(&bytes)
 }
 

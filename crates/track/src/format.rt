@@ -1,8 +1,8 @@
-// Formatting: slot after slot, each whole.
+// Formatting: one walk over a track's slots, each step of which writes one slot whole.
 use crate::id::Id;
 use crate::id::State;
+use crate::id::id_bytes;
 use crate::id::id_for;
-use crate::id::write_id;
 use base::copy_bytes;
 use geometry::params::Params;
 use geometry::params::Track;
@@ -11,9 +11,9 @@ ghost use mathlib.Core.List.{_++_};
 ghost use Prim.Native.Nat.{_+_, _-_, _*_, _≤_, _<_};
 ghost use lib.ListN.{length};
 ghost use Rattle.geometry.specs.Params.{trackCount};
-ghost use Rattle.track.specs.Id.{idBytes, partnerOf};
+ghost use Rattle.track.specs.Id.{partnerOf};
 ghost use Rattle.track.specs.Image.{Fits, withTrack};
-ghost use Rattle.track.specs.Format.{withSector, slotsMade, formatted, soundFrom};
+ghost use Rattle.track.specs.Format.{withSector, stepped, underWay, formatted, soundFrom};
 
 fn with_sector(id: Id, s: u8) -> Id
     ensures { λ r. ⌜ r ≡ withSector id s ⌝ }
@@ -23,28 +23,37 @@ fn with_sector(id: Id, s: u8) -> Id
     other
 }
 
-// One slot, whole.
-fn write_slot(slot: &mut [u8], id: Id, fill: &[u8])
-    requires { ⌜ (length (now slot) ≡ 8 + length (now fill)) × (id .partner .0 < 65536) ⌝ }
-    ensures { λ _. ⌜ now (slot .exit) ≡ idBytes id ++ now (fill .entry) ⌝ }
+// A slot, whole: the bytes of its ID, then its data.
+fn write_slot(slot: &mut [u8], id: &[u8], fill: &[u8])
+    requires { ⌜ length (now slot) ≡ length (now id) + length (now fill) ⌝ }
+    ensures { λ _. ⌜ now (slot .exit) ≡ now (id .entry) ++ now (fill .entry) ⌝ }
 {
-    write_id(slot, id);
+    let at = id.len();
     let end = slot.len();
-    copy_bytes(&mut slot[8..end], fill);
+    copy_bytes(&mut slot[0..at], id);
+    copy_bytes(&mut slot[at..end], fill);
 }
 
-// The slots of a track, which is lent its own stretch of the image, with the sectors of the map.
-fn format_track(track: &mut [u8], id: Id, map: &[u8], fill: &[u8])
-    requires { ⌜ (length (now track) ≡ length (now map) * (8 + length (now fill))) × (id .partner .0 < 65536) ⌝ }
-    ensures { λ _. ⌜ now (track .exit) ≡ slotsMade id (now (map .entry)) (now (fill .entry)) ⌝ }
+// A step of a format: slot k of the track, which is lent its own stretch of the image.
+fn format_step(track: &mut [u8], id: Id, map: &[u8], fill: &[u8], k: usize)
+    requires { ⌜ (length (now track) ≡ length (now map) * (8 + length (now fill))) × (k < length (now map)) × (id .partner .0 < 65536) ⌝ }
+    ensures { λ _. ⌜ now (track .exit) ≡ stepped id (now (map .entry)) (now (fill .entry)) k (now (track .entry)) ⌝ }
 {
-    let size = 8 + fill.len();
-    let mut at = 0;
+    let start = k * (8 + fill.len());
+    let body = start + 8;
+    let end = body + fill.len();
+    let bytes = id_bytes(with_sector(id, map[k]));
+    write_slot(&mut track[start..end], &bytes, fill);
+}
+
+// The first `count` steps, in slot order.
+fn format_slots(track: &mut [u8], id: Id, map: &[u8], fill: &[u8], count: usize)
+    requires { ⌜ (length (now track) ≡ length (now map) * (8 + length (now fill))) × (count ≤ length (now map)) × (id .partner .0 < 65536) ⌝ }
+    ensures { λ _. ⌜ now (track .exit) ≡ underWay id (now (map .entry)) (now (fill .entry)) count (now (track .entry)) ⌝ }
+{
     let mut k = 0;
-    while k < map.len() {
-        let end = at + size;
-        write_slot(&mut track[at..end], with_sector(id, map[k]), fill);
-        at = end;
+    while k < count {
+        format_step(track, id, map, fill, k);
         k += 1;
     }
 }
@@ -57,7 +66,8 @@ pub fn format_at(image: &mut [u8], p: Params, t: Track, state: State, map: &[u8]
     let place = p.stretch(t);
     let start = place.start;
     let end = place.end;
-    format_track(&mut image[start..end], id_for(p, t, state, 0), map, fill);
+    let id = id_for(p, t, state, 0);
+    format_slots(&mut image[start..end], id, map, fill, map.len());
 }
 
 // Formats the tracks from `first` to the last as sound.

@@ -2,9 +2,8 @@
 use geometry::params::Params;
 use geometry::params::Track;
 ghost use mathlib.Core.Path.{_≡_};
-ghost use mathlib.Core.List.{_++_};
 ghost use Prim.Native.Nat.{_+_, _*_, _≤_, _<_};
-ghost use lib.ListN.{length, drop};
+ghost use lib.ListN.{length};
 ghost use Rattle.geometry.specs.Params.{Within, trackCount};
 ghost use Rattle.track.specs.Id.{flagOf, partnerOf, idBytes, idIn, idFor, ownId};
 ghost use Rattle.track.specs.Image.{Fits, firstId};
@@ -66,20 +65,22 @@ pub fn id_for(p: Params, t: Track, state: State, s: u8) -> Id
     }
 }
 
-// Writes the 8 ID bytes at the front of a slot.
-pub fn write_id(slot: &mut [u8], id: Id)
-    requires { ⌜ (8 ≤ length (now slot)) × (id .partner .0 < 65536) ⌝ }
-    ensures { λ _. ⌜ now (slot .exit) ≡ idBytes id ++ drop 8 (now (slot .entry)) ⌝ }
+// The 8 ID bytes, as they are written.
+pub fn id_bytes(id: Id) -> [u8; 8]
+    requires { ⌜ id .partner .0 < 65536 ⌝ }
+    ensures { λ r. ⌜ r ≡ idBytes id ⌝ }
 {
     let partner = id.partner;
-    slot[0] = id.mark;
-    slot[1] = (id.cylinder / 256) as u8;
-    slot[2] = (id.cylinder % 256) as u8;
-    slot[3] = id.head;
-    slot[4] = id.sector;
-    slot[5] = id.flag;
-    slot[6] = (partner.0 / 256) as u8;
-    slot[7] = (partner.0 % 256) as u8;
+    [
+        id.mark,
+        (id.cylinder / 256) as u8,
+        (id.cylinder % 256) as u8,
+        id.head,
+        id.sector,
+        id.flag,
+        (partner.0 / 256) as u8,
+        (partner.0 % 256) as u8,
+    ]
 }
 
 fn two_bytes(high: u8, low: u8) -> u16

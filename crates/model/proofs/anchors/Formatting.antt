@@ -1,4 +1,5 @@
 -- What the format commands write, byte for byte: flags, partners, fills, the label. One cylinder, three heads, two sectors of one byte.
+-- And a track formatted step by step.
 use Prim.Native.Nat.{ℕ, _*_}
 use mathlib.Core.Path.{_≡_, refl}
 use mathlib.Core.Bool.{true}
@@ -11,9 +12,10 @@ use Rattle.geometry.specs.declared.params.Params.{Params}
 use Rattle.geometry.specs.declared.config.Setting.the-variants.{Valid}
 use Rattle.geometry.specs.Medium.{mediumOf, isFloppy}
 use Rattle.interleave.specs.Layout.{emptyFrom, put, place, laid, layoutOf}
-use Rattle.track.specs.Id.{flagOf, partnerOf, idBytes, idIn, idFor, ownId}
+use Rattle.track.specs.declared.id.State.the-variants.{Bad}
+use Rattle.track.specs.Id.{track, flagOf, partnerOf, idBytes, idIn, idFor, ownId}
 use Rattle.track.specs.Image.{trackBytes, withTrack, slotId, firstId}
-use Rattle.track.specs.Format.{withSector, slotMade, slotsMade, formatted, soundFrom}
+use Rattle.track.specs.Format.{withSector, slotMade, slotsMade, stepped, afterSteps, formatted, soundFrom}
 use Rattle.track.specs.Pair.{stateBy, stateOf, splits, pairSplit}
 use Rattle.model.specs.declared.table.Command.{Command}
 use Rattle.model.specs.declared.table.Command.the-variants.{FormatDrive, FormatTrack, FormatBadTrack, AssignAlternate}
@@ -85,3 +87,18 @@ unfolding p config other entry controller leavesOn leaves slot old carryOut onDi
     pairSplit splits stateOf stateBy firstId idIn ownId trackBytes slotId withTrack part splice rows formatted slotsMade slotMade withSector
     idBytes idFor flagOf partnerOf soundFrom layoutOf laid place put emptyFrom someBelow isSome firstBelow firstFrom pick
 formats = (refl, refl, refl, refl, refl, refl, refl, refl, refl, refl)
+
+-- Track 1 made bad, on a stretch of five slots with interleave 2: after each number of steps the slots so far are there, whole and
+-- in slot order.
+after : (k : ℕ) → List ℕ
+after k = afterSteps (idFor p (track 1) Bad 0) (layoutOf 5 2) (7 ∷ []) k (old 45)
+
+steps :
+    (after 0 ≡ old 45)
+    × (after 1 ≡ slot 0xA1 0 0 1 0 1 0 0 7 ++ old 36)
+    × (after 2 ≡ slot 0xA1 0 0 1 0 1 0 0 7 ++ slot 0xA1 0 0 1 3 1 0 0 7 ++ old 27)
+    × (after 3 ≡ slot 0xA1 0 0 1 0 1 0 0 7 ++ slot 0xA1 0 0 1 3 1 0 0 7 ++ slot 0xA1 0 0 1 1 1 0 0 7 ++ old 18)
+    × (after 5 ≡ slot 0xA1 0 0 1 0 1 0 0 7 ++ slot 0xA1 0 0 1 3 1 0 0 7 ++ slot 0xA1 0 0 1 1 1 0 0 7 ++ slot 0xA1 0 0 1 4 1 0 0 7
+    ++ slot 0xA1 0 0 1 2 1 0 0 7)
+unfolding p after slot old afterSteps stepped slotMade withSector idBytes idFor flagOf partnerOf splice layoutOf laid place put emptyFrom pick
+steps = (refl, refl, refl, refl, refl)

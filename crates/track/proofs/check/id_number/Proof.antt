@@ -1,15 +1,11 @@
 use mathlib.Core.Path.{ap, _∙_}
-use mathlib.Core.List.{append-nil}
 use Rattle.track.specs.Number.{numberOf}
 use borrow.Author.Needs.{needs}
 use Rattle.track.proofs.check.id_number.Statement.{statement}
 use Rattle.track.proofs.check.id_number.Tie as tie
 
-slice-aggregate-write-id : tie.Need-slice-aggregate-write-id
-slice-aggregate-write-id c = search needs
-
-write-id-requires : tie.Need-write-id-requires
-write-id-requires c κs = search needs
+id-bytes-requires : tie.Need-id-bytes-requires
+id-bytes-requires c κs = search needs
 
 slice-aggregate-number-of : tie.Need-slice-aggregate-number-of
 slice-aggregate-number-of c = search needs
@@ -18,14 +14,8 @@ number-of-requires : tie.Need-number-of-requires
 number-of-requires c κs = search needs
 
 returns : tie.Need-returns
-returns c = c .number-of .ensures ∙ ap numberOf (c .before .before .before .write-id .ensures ∙ append-nil _)
+returns c = c .number-of .ensures ∙ ap numberOf (c .before .before .id-bytes .ensures)
 
 pub id-number-spec : {M : Type 1} → statement M
 id-number-spec =
-    tie.close
-    (tie.spec
-    slice-aggregate-write-id
-    write-id-requires
-    slice-aggregate-number-of
-    number-of-requires
-    returns)
+    tie.close (tie.spec id-bytes-requires slice-aggregate-number-of number-of-requires returns)
