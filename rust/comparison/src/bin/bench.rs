@@ -1,10 +1,11 @@
-//! Times the proved library, the plain Rust engine, and a copy or fill of the same bytes, side by
+//! Times the proved library, the plain Rust engine, and a copy and a fill of as many bytes, side by
 //! side.
 //!
 //! `cargo run --offline --release --manifest-path rust/Cargo.toml --bin bench` prints a table of
 //! nanoseconds a call and of ratios.
 
 use std::hint::black_box;
+use std::ops::Range;
 use std::time::Instant;
 
 use comparison::engine::Engine;
@@ -15,6 +16,11 @@ use comparison::proved::Proved;
 const ROUNDS: usize = 16;
 /// How long a round lasts at least.
 const ROUND_SECONDS: f64 = 0.03;
+
+/// The bytes of a label, in front of the tracks.
+const LABEL: usize = 16;
+/// The bytes of a slot's ID, in front of its data.
+const ID: usize = 8;
 
 struct Disk {
     name: &'static str,
@@ -119,6 +125,18 @@ impl Memory {
         (self.next >> 8) % (disk.sectors - count + 1)
     }
 
+    /// The part of the image that a format writes: a track, picked at random, or all tracks.
+    fn formatted(&mut self, disk: &Disk, row: Row) -> Range<usize> {
+        let size = (disk.length - LABEL) / disk.tracks;
+        match row {
+            Row::FormatTrack => {
+                let track = self.address(disk, 1) as usize * disk.tracks / disk.sectors as usize;
+                LABEL + track * size..LABEL + (track + 1) * size
+            }
+            _ => LABEL..disk.length,
+        }
+    }
+
     fn command(&mut self, disk: &Disk, row: Row) -> [u8; 6] {
         let many = disk.many();
         match row {
@@ -128,6 +146,7 @@ impl Memory {
             Row::ReadMany => disk.block(0x08, self.address(disk, many), many as u8),
             Row::WriteMany => disk.block(0x0A, self.address(disk, many), many as u8),
             Row::CheckTrack => disk.block(0x05, self.address(disk, 1), 5),
+            Row::FormatTrack => disk.block(0x06, self.address(disk, 1), 5),
             Row::FormatDrive => disk.block(0x04, 0, 5),
         }
     }
@@ -156,35 +175,56 @@ fn commands<'a>(engine: &'a mut impl Engine, disk: &'a Disk, row: Row) -> Run<'a
     })
 }
 
-/// A copy of the bytes that a transfer moves, from or to the image, or a fill of those that a format
-/// writes.
-fn bytes(disk: &Disk, row: Row) -> Option<Run<'_>> {
-    let (count, writes) = match row {
-        Row::ReadOne => (1, false),
-        Row::WriteOne => (1, true),
-        Row::ReadMany => (disk.many(), false),
-        Row::WriteMany => (disk.many(), true),
-        Row::FormatDrive => {
-            return Some(Box::new(|memory, calls| {
+/// A copy of as many bytes as a command moves: a transfer's from or to the image, a format's slot by
+/// slot, each from an ID and a sector.
+fn copy(disk: &Disk, row: Row) -> Option<Run<'_>> {
+    let run: Run = match row {
+        Row::ReadOne | Row::ReadMany => {
+            let (count, bytes) = disk.moved(row);
+            Box::new(move |memory, calls| {
                 for _ in 0..calls {
-                    black_box(&mut memory.spare).fill(0x6C);
+                    let at = memory.address(disk, count) as usize * disk.size;
+                    let stretch = &black_box(&mut memory.spare)[at..at + bytes];
+                    black_box(&mut memory.area)[..bytes].copy_from_slice(stretch);
                 }
-            }))
+            })
         }
+        Row::WriteOne | Row::WriteMany => {
+            let (count, bytes) = disk.moved(row);
+            Box::new(move |memory, calls| {
+                for _ in 0..calls {
+                    let at = memory.address(disk, count) as usize * disk.size;
+                    let stretch = &mut black_box(&mut memory.spare)[at..at + bytes];
+                    stretch.copy_from_slice(&memory.given[..bytes]);
+                }
+            })
+        }
+        Row::FormatTrack | Row::FormatDrive => Box::new(move |memory, calls| {
+            let (id, sector) = (black_box([0xA1; ID]), black_box([0x6C; 512]));
+            for _ in 0..calls {
+                let stretch = memory.formatted(disk, row);
+                for slot in black_box(&mut memory.spare)[stretch].chunks_exact_mut(ID + disk.size) {
+                    slot[..ID].copy_from_slice(&id);
+                    slot[ID..].copy_from_slice(&sector[..disk.size]);
+                }
+            }
+        }),
         Row::TestReady | Row::CheckTrack => return None,
     };
-    let bytes = count as usize * disk.size;
-    Some(Box::new(move |memory, calls| {
-        for _ in 0..calls {
-            let at = memory.address(disk, count) as usize * disk.size;
-            let stretch = &mut black_box(&mut memory.spare)[at..at + bytes];
-            if writes {
-                stretch.copy_from_slice(&memory.given[..bytes]);
-            } else {
-                black_box(&mut memory.area)[..bytes].copy_from_slice(stretch);
+    Some(run)
+}
+
+/// A fill of as many bytes as a format writes.
+fn fill(disk: &Disk, row: Row) -> Option<Run<'_>> {
+    match row {
+        Row::FormatTrack | Row::FormatDrive => Some(Box::new(move |memory, calls| {
+            for _ in 0..calls {
+                let stretch = memory.formatted(disk, row);
+                black_box(&mut memory.spare)[stretch].fill(0x6C);
             }
-        }
-    }))
+        })),
+        _ => None,
+    }
 }
 
 impl Disk {
@@ -201,6 +241,12 @@ impl Disk {
     fn many(&self) -> u32 {
         self.sectors.min(256)
     }
+
+    /// The sectors of a transfer, and their bytes.
+    fn moved(&self, row: Row) -> (u32, usize) {
+        let count = if let Row::ReadMany | Row::WriteMany = row { self.many() } else { 1 };
+        (count, count as usize * self.size)
+    }
 }
 
 #[derive(Clone, Copy)]
@@ -211,22 +257,31 @@ enum Row {
     ReadMany,
     WriteMany,
     CheckTrack,
+    FormatTrack,
     FormatDrive,
 }
 
-const ROWS: [Row; 7] = [
+const ROWS: [Row; 8] = [
     Row::TestReady,
     Row::ReadOne,
     Row::WriteOne,
     Row::ReadMany,
     Row::WriteMany,
     Row::CheckTrack,
+    Row::FormatTrack,
     Row::FormatDrive,
 ];
 
 /// Floppies have no Check Track.
-const FLOPPY_ROWS: [Row; 6] =
-    [Row::TestReady, Row::ReadOne, Row::WriteOne, Row::ReadMany, Row::WriteMany, Row::FormatDrive];
+const FLOPPY_ROWS: [Row; 7] = [
+    Row::TestReady,
+    Row::ReadOne,
+    Row::WriteOne,
+    Row::ReadMany,
+    Row::WriteMany,
+    Row::FormatTrack,
+    Row::FormatDrive,
+];
 
 fn title(row: Row, disk: &Disk) -> String {
     match row {
@@ -236,6 +291,7 @@ fn title(row: Row, disk: &Disk) -> String {
         Row::ReadMany => format!("Read {}", disk.many()),
         Row::WriteMany => format!("Write {}", disk.many()),
         Row::CheckTrack => String::from("Check Track"),
+        Row::FormatTrack => String::from("Format Track"),
         Row::FormatDrive => format!("Format {} tracks", disk.tracks),
     }
 }
@@ -250,16 +306,26 @@ fn measure(
     let runs = vec![commands(proved, disk, row), commands(plain, disk, row)];
     let engines = nanoseconds(runs, memory);
     let (ours, theirs) = (engines[0], engines[1]);
-    let moved = bytes(disk, row).map(|run| nanoseconds(vec![run], memory)[0]);
-    let cost = moved.map_or(String::new(), |moved| format!("{moved:.0}"));
-    let share = moved.map_or(String::new(), |moved| format!("{:.2}", ours / moved));
-    let (name, title, ratio) = (disk.name, title(row, disk), ours / theirs);
-    println!("| {name} | {title} | {ours:.0} | {theirs:.0} | {cost} | {ratio:.2} | {share} |");
+    let [copied, filled] = [copy(disk, row), fill(disk, row)]
+        .map(|run| run.map(|run| nanoseconds(vec![run], memory)[0]));
+    let cost = |bytes: Option<f64>| bytes.map_or(String::new(), |ns| format!("{ns:.0}"));
+    let ratio = |bytes: Option<f64>| bytes.map_or(String::new(), |ns| format!("{:.2}", ours / ns));
+    let (name, title) = (disk.name, title(row, disk));
+    println!(
+        "| {name} | {title} | {ours:.0} | {theirs:.0} | {} | {} | {:.2} | {} | {} |",
+        cost(copied),
+        cost(filled),
+        ours / theirs,
+        ratio(copied),
+        ratio(filled)
+    );
 }
 
 fn main() {
-    println!("| disk | command | proved ns | plain ns | memory ns | / plain | / memory |");
-    println!("|---|---|---|---|---|---|---|");
+    println!(
+        "| disk | command | proved ns | plain ns | copy ns | fill ns | / plain | / copy | / fill |"
+    );
+    println!("|---|---|---|---|---|---|---|---|---|");
     // all at the start: what is freed and taken again would lie elsewhere
     let mut memories = DISKS.each_ref().map(Memory::new);
     for (disk, memory) in DISKS.iter().zip(&mut memories) {
