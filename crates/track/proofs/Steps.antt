@@ -107,8 +107,8 @@ slot-written id fill slot first second l e f =
     rw (front, f) (back ∙ splice-on id fill slot (length id) refl ∙ splice-all (id ++ fill) slot (omega (arith, length-append id fill)))
 
 -- slot k is within the track
-pub slot-room : (map fill track : List ℕ) (k : ℕ) → length track ≡ length map * (8 + length fill) → k < length map → k * (8 + length fill) + 8 + length fill ≤ length track
-slot-room map fill track k whole h = omega (arith, whole, cell-in (8 + length fill) k (length map) h)
+pub step-room : (map fill track : List ℕ) (k : ℕ) → length track ≡ length map * (8 + length fill) → k < length map → k * (8 + length fill) + 8 + length fill ≤ length track
+step-room map fill track k whole h = omega (arith, whole, cell-in (8 + length fill) k (length map) h)
 
 -- a step: the slot in its part of the track, which is lent
 pub step-lent : (id other : Id) (map fill track bytes slot : List ℕ) (k : ℕ) → other ≡ withSector id (getD map k 0) → bytes ≡ idBytes other → slot ≡ bytes ++ fill

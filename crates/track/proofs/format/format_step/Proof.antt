@@ -2,7 +2,7 @@ use native.Mathlib.Omega.{arith}
 use Prim.Native.Nat.{_+_, _*_, _≤_}
 use lib.ListN.{length}
 use Rattle.track.specs.Format.{withSector}
-use Rattle.track.proofs.Steps.{slot-room, step-lent}
+use Rattle.track.proofs.Steps.{step-room, step-lent}
 use borrow.Author.Needs.{needs}
 use Rattle.track.proofs.format.format_step.Statement.{statement}
 use Rattle.track.proofs.format.format_step.Tie as tie
@@ -12,7 +12,7 @@ add-start c = search needs
 
 -- the slot is within the track
 room : (a : tie.Start) → a .args .k * (8 + length (a .args .fill .now)) + 8 + length (a .args .fill .now) ≤ length (a .args .track .now)
-room a = slot-room (a .args .map .now) (a .args .fill .now) (a .args .track .now) (a .args .k) (a .pre .0) (a .pre .1)
+room a = step-room (a .args .map .now) (a .args .fill .now) (a .args .track .now) (a .args .k) (a .pre .0) (a .pre .1)
 
 mul-start : tie.Need-mul-start
 mul-start c = omega (arith, room (c .before .before .before))
