@@ -4,3 +4,4 @@ pub mod Firsts
 pub mod Sames
 pub mod Copies
 pub mod Bools
+pub mod Fronts

@@ -9,8 +9,8 @@ use lib.ListN.{length, drop, getD, drop-of-length-le}
 use lib.Seq.{drop-cons}
 use lib.Dec.{eqb}
 use borrow.Author.Tests.{eq-eqb, ne-eqb, eqb-true}
-use Rattle.base.proofs.Bools.{both-true}
 use Rattle.base.specs.Same.{sameBytes}
+use Rattle.base.proofs.Bools.{both-true}
 
 pub same-self : (l : List ℕ) → sameBytes l l ≡ true
 unfolding sameBytes

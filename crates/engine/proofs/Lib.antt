@@ -1,4 +1,2 @@
-pub mod Resets
-pub mod Admits
-pub mod Carries
 pub mod Executes
+pub mod Resets

@@ -1,42 +1,10 @@
 // Reset, and a fresh controller.
-use control::record::bare_answer;
-use geometry::config::Setting;
-use geometry::config::config_in;
-use geometry::config::label_setting;
-use geometry::medium::medium_of;
+use drives::load::load;
+use endings::record::bare_answer;
 use model::record::Controller;
-use model::record::Drive;
 use model::record::Outcome;
 ghost use mathlib.Core.Path.{_≡_};
-ghost use Rattle.model.specs.Record.{blankDrive};
-ghost use Rattle.model.specs.Engine.{imagesOf, loaded, fresh, resetOf};
-
-fn blank_drive() -> Drive
-    ensures { λ r. ⌜ r ≡ blankDrive ⌝ }
-{
-    Drive {
-        sense: [0; 4],
-        config: [0; 10],
-        known: false,
-        pending: false,
-    }
-}
-
-// A drive after Reset: a valid label is in force.
-fn load(drive: u8, image: &[u8]) -> Drive
-    ensures { λ r. ⌜ r ≡ loaded drive (now (image .entry)) ⌝ }
-{
-    let setting = label_setting(medium_of(drive), image);
-    match setting {
-        Setting::Invalid => blank_drive(),
-        Setting::Valid(_) => Drive {
-            sense: [0; 4],
-            config: config_in(image),
-            known: true,
-            pending: false,
-        },
-    }
-}
+ghost use Rattle.model.specs.Engine.{imagesOf, fresh, resetOf};
 
 // A fresh controller: as it is after Reset.
 pub fn fresh(image0: &[u8], image1: &[u8], image2: &[u8], image3: &[u8]) -> Controller

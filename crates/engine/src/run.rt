@@ -1,167 +1,18 @@
 // A command from its block to its outcome.
-use commands::assign::assign_alternate;
-use commands::check::check_track;
-use commands::format::format_bad;
-use commands::format::format_drive;
-use commands::format::format_sound;
-use commands::initialize::initialize;
-use commands::read::read;
-use commands::write::write;
-use control::block::decode;
-use control::buffer::read_buffer;
-use control::buffer::request_sense;
-use control::buffer::write_buffer;
-use control::checks::judge;
-use control::record::Ending;
-use control::record::bare_answer;
-use control::record::drive_at;
-use control::record::failed;
-use control::record::good;
-use control::record::refused;
-use control::record::setting_in;
-use control::table::entry_of;
-use geometry::config::Setting;
-use geometry::medium::medium_of;
-use geometry::params::Params;
+use checks::block::decode;
+use dispatch::obey::obey;
+use endings::record::Ending;
+use endings::record::bare_answer;
 use model::block::Block;
 use model::record::Controller;
 use model::record::Drive;
 use model::record::Outcome;
-use model::table::Command;
-use model::verdict::Verdict;
 ghost use mathlib.Core.Path.{_≡_};
 ghost use Prim.Native.Nat.{_<_};
 ghost use lib.ListN.{length};
-ghost use Rattle.geometry.specs.declared.config.Setting.the-variants.{Valid, Invalid};
-ghost use Rattle.geometry.specs.Medium.{mediumOf};
-ghost use Rattle.model.specs.Table.{entryOf};
-ghost use Rattle.model.specs.Record.{driveIn, settingIn};
-ghost use Rattle.model.specs.Commands.{carryOut};
 ghost use Rattle.model.specs.Engine.{obey, imagesOf, onImages, execute};
-ghost use Rattle.control.specs.Leaves.{recordOf, leftWith, leftBy, leftNow};
-ghost use Rattle.engine.specs.Steps.{Admitted, resultNow};
-
-// A command whose checks have passed, up to its own, on a drive with parameters.
-fn with_parameters(
-    drives: [Drive; 4],
-    b: Block,
-    p: Params,
-    buffer: &mut [u8],
-    given: &[u8],
-    area: &mut [u8],
-    image: &mut [u8],
-    command: Command,
-) -> Ending
-    requires { ⌜ Admitted (recordOf (now buffer) drives) b (length (now given)) (length (now area)) (length (now image)) × (entryOf (b .opcode) .command ≡ command) × (settingIn (mediumOf (b .drive)) (driveIn drives (b .drive)) (length (now image)) ≡ Valid p) × (length (now buffer) ≡ 512) ⌝ }
-    ensures { λ r. ⌜ leftNow (leftWith (now (buffer .exit)) r) (now (area .exit)) (now (image .exit)) ≡ leftBy (carryOut b (Valid p) (now (given .entry)) (recordOf (now (buffer .entry)) drives) (now (image .entry)) command) (now (area .entry)) ⌝ }
-{
-    let drive = b.drive;
-    match command {
-        Command::TestReady => good(drives, drive, 0, 0),
-        Command::Recalibrate => good(drives, drive, 0, 0),
-        Command::RequestSense => request_sense(drives, drive, area),
-        Command::FormatDrive => format_drive(drives, b, p, buffer, image),
-        Command::CheckTrack => check_track(drives, b, p, image),
-        Command::FormatTrack => format_sound(drives, b, p, buffer, image),
-        Command::FormatBadTrack => format_bad(drives, b, p, image),
-        Command::Read => read(drives, b, p, buffer, area, image),
-        Command::Write => write(drives, b, p, buffer, given, image),
-        Command::Seek => good(drives, drive, 0, 0),
-        Command::AssignAlternate => assign_alternate(drives, b, p, buffer, given, image),
-        Command::WriteBuffer => write_buffer(drives, drive, buffer, given),
-        Command::ReadBuffer => read_buffer(drives, drive, buffer, area),
-        Command::Initialize => initialize(drives, b, given, image),
-        Command::Unknown => failed(drives, drive, 0x20, b.address, 0, 0),
-    }
-}
-
-// The same on a drive without parameters: 0Ah has been given before to those that need them.
-fn without_parameters(
-    drives: [Drive; 4],
-    b: Block,
-    buffer: &mut [u8],
-    given: &[u8],
-    area: &mut [u8],
-    image: &[u8],
-    command: Command,
-) -> Ending
-    requires { ⌜ Admitted (recordOf (now buffer) drives) b (length (now given)) (length (now area)) (length (now image)) × (entryOf (b .opcode) .command ≡ command) × (length (now buffer) ≡ 512) ⌝ }
-    ensures { λ r. ⌜ leftNow (leftWith (now (buffer .exit)) r) (now (area .exit)) (now (image .entry)) ≡ leftBy (carryOut b Invalid (now (given .entry)) (recordOf (now (buffer .entry)) drives) (now (image .entry)) command) (now (area .entry)) ⌝ }
-{
-    let drive = b.drive;
-    let at = b.address;
-    match command {
-        Command::TestReady => good(drives, drive, 0, 0),
-        Command::Recalibrate => good(drives, drive, 0, 0),
-        Command::RequestSense => request_sense(drives, drive, area),
-        Command::FormatDrive => failed(drives, drive, 0x0A, at, 0, 0),
-        Command::CheckTrack => failed(drives, drive, 0x0A, at, 0, 0),
-        Command::FormatTrack => failed(drives, drive, 0x0A, at, 0, 0),
-        Command::FormatBadTrack => failed(drives, drive, 0x0A, at, 0, 0),
-        Command::Read => failed(drives, drive, 0x0A, at, 0, 0),
-        Command::Write => failed(drives, drive, 0x0A, at, 0, 0),
-        Command::Seek => good(drives, drive, 0, 0),
-        Command::AssignAlternate => failed(drives, drive, 0x0A, at, 0, 0),
-        Command::WriteBuffer => write_buffer(drives, drive, buffer, given),
-        Command::ReadBuffer => read_buffer(drives, drive, buffer, area),
-        Command::Initialize => initialize(drives, b, given, image),
-        Command::Unknown => failed(drives, drive, 0x20, at, 0, 0),
-    }
-}
-
-fn carry_out(
-    drives: [Drive; 4],
-    b: Block,
-    setting: Setting,
-    buffer: &mut [u8],
-    given: &[u8],
-    area: &mut [u8],
-    image: &mut [u8],
-    command: Command,
-) -> Ending
-    requires { ⌜ Admitted (recordOf (now buffer) drives) b (length (now given)) (length (now area)) (length (now image)) × (entryOf (b .opcode) .command ≡ command) × (settingIn (mediumOf (b .drive)) (driveIn drives (b .drive)) (length (now image)) ≡ setting) × (length (now buffer) ≡ 512) ⌝ }
-    ensures { λ r. ⌜ leftNow (leftWith (now (buffer .exit)) r) (now (area .exit)) (now (image .exit)) ≡ leftBy (carryOut b setting (now (given .entry)) (recordOf (now (buffer .entry)) drives) (now (image .entry)) command) (now (area .entry)) ⌝ }
-{
-    match setting {
-        Setting::Valid(p) => with_parameters(drives, b, p, buffer, given, area, image, command),
-        Setting::Invalid => without_parameters(drives, b, buffer, given, area, image, command),
-    }
-}
-
-// A command of six bytes, on its drive's image.
-fn obey(
-    drives: [Drive; 4],
-    b: Block,
-    buffer: &mut [u8],
-    given: &[u8],
-    area: &mut [u8],
-    image: &mut [u8],
-) -> Ending
-    requires { ⌜ (b .drive < 4) × (b .address .0 < 2097152) × (length (now buffer) ≡ 512) ⌝ }
-    ensures { λ r. ⌜ leftNow (leftWith (now (buffer .exit)) r) (now (area .exit)) (now (image .exit)) ≡ leftBy (obey b (now (given .entry)) (length (now (area .entry))) (recordOf (now (buffer .entry)) drives) (now (image .entry))) (now (area .entry)) ⌝ }
-{
-    let drive = b.drive;
-    let row = entry_of(b.opcode);
-    let command = row.command;
-    let entry = drive_at(drives, drive);
-    let medium = medium_of(drive);
-    let setting = setting_in(medium, entry, image.len());
-    let verdict = judge(
-        row,
-        b,
-        medium,
-        16 <= image.len(),
-        setting,
-        entry.pending,
-        given.len(),
-        area.len(),
-    );
-    match verdict {
-        Verdict::Refused(number) => refused(drives, number),
-        Verdict::Faulty(code, at) => failed(drives, drive, code, at, 0, 0),
-        Verdict::Passed => carry_out(drives, b, setting, buffer, given, area, image, command),
-    }
-}
+ghost use Rattle.endings.specs.Leaves.{recordOf, leftWith};
+ghost use Rattle.engine.specs.Results.{resultNow};
 
 // A command on the image of the drive that it names.
 fn on_images(

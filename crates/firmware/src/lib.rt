@@ -7,7 +7,7 @@ use model::record::Answer;
 use model::record::Controller;
 ghost use mathlib.Core.Path.{_≡_};
 ghost use Rattle.model.specs.Engine.{imagesOf, execute, fresh, resetOf};
-ghost use Rattle.engine.specs.Steps.{resultNow};
+ghost use Rattle.engine.specs.Results.{resultNow};
 
 // A command: any record, block, given data, data area and images: two hard disks, then two floppies.
 #[no_mangle]

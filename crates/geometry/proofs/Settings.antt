@@ -7,6 +7,7 @@ use native.Mathlib.Omega.{arith}
 use lib.ListN.{length, getD}
 use borrow.Author.Tests.{eq-eqb, eqb-true, leb-true}
 use Rattle.base.specs.Pick.{pick}
+use Rattle.base.specs.Byte.{byte}
 use Rattle.base.proofs.Decide.{pick-true, pick-false}
 use Rattle.base.proofs.Bools.{both-true, test-on, test-off}
 use Rattle.geometry.specs.declared.params.Params.{Params}
@@ -19,7 +20,7 @@ use Rattle.geometry.specs.declared.config.Setting.{Setting}
 use Rattle.geometry.specs.declared.config.Setting.the-variants.{Valid, Invalid}
 use Rattle.geometry.specs.Params.{Within, imageLength}
 use Rattle.geometry.specs.Medium.{isIn, rangesOf}
-use Rattle.geometry.specs.Config.{sizes, sizeFor, paramsOf, fittedTo, fieldsIn, settingBy, byte, settingOf}
+use Rattle.geometry.specs.Config.{sizes, sizeFor, paramsOf, fittedTo, fieldsIn, settingBy, settingOf}
 
 -- ---- the rows of the sizes
 row-same : (d₁ d₂ : Size) (k : ℕ) → k < 3 → getD sizes k d₁ ≡ getD sizes k d₂

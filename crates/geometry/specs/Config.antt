@@ -4,6 +4,7 @@ use mathlib.Core.List.{List, [], _∷_}
 use Prim.Native.Nat.{ℕ, _+_, _*_, _/_, _%_}
 use lib.ListN.{length, getD}
 use lib.Dec.{leb, eqb}
+use Rattle.base.specs.Byte.{byte}
 use Rattle.base.specs.Pick.{pick}
 use Rattle.base.specs.Part.{part}
 use Rattle.base.specs.Same.{sameBytes}
@@ -41,9 +42,6 @@ settingBy medium cylinders heads step size burst image =
     pick (fieldsIn (rangesOf medium) cylinders heads step size burst)
     (fittedTo (paramsOf cylinders heads (sizeFor size)) image)
     Invalid
-
-abbrev pub byte : List ℕ → ℕ → ℕ
-byte c i = getD c i 0
 
 -- What ten configuration bytes give with an image of this length: cylinders high byte first.
 unfoldable pub settingOf : Medium → (config : List ℕ) → (image : ℕ) → Setting

@@ -4,10 +4,11 @@ use crate::medium::Ranges;
 use crate::medium::is_in;
 use crate::medium::ranges_of;
 use crate::params::Params;
-use base::copy_bytes;
-use base::same_bytes;
+use base::bytes::copy_bytes;
+use base::bytes::same_bytes;
+use base::bytes::two_bytes;
 ghost use mathlib.Core.Path.{_≡_};
-ghost use Prim.Native.Nat.{_+_, _*_, _≤_, _<_};
+ghost use Prim.Native.Nat.{_≤_, _<_};
 ghost use lib.ListN.{length};
 ghost use Rattle.base.specs.Part.{part};
 ghost use Rattle.geometry.specs.Params.{Within};
@@ -46,13 +47,6 @@ fn size_for(byte: u8) -> Size
     ensures { λ r. ⌜ r ≡ sizeFor byte ⌝ }
 {
     SIZES[byte as usize]
-}
-
-// A number of two bytes, high byte first.
-fn two_bytes(high: u8, low: u8) -> u32
-    ensures { λ r. ⌜ r ≡ high * 256 + low ⌝ }
-{
-    (high as u32) * 256 + (low as u32)
 }
 
 // Parameters of a size.
@@ -124,7 +118,7 @@ pub fn setting_of(medium: Medium, config: [u8; 10], image: usize) -> Setting
 {
     setting_by(
         medium,
-        two_bytes(config[0], config[1]),
+        two_bytes(config[0], config[1]) as u32,
         config[2],
         config[3],
         config[4],

@@ -18,7 +18,7 @@ use Rattle.hex.specs.Hex.{valueOf, before, decoded}
 use Rattle.hex.specs.Line.{Reading, lineNow, started, spoiltLine, accepted, acceptedAll, wholeOf, within, lineOf}
 use Rattle.hex.proofs.Digits.{value-small}
 use Rattle.hex.proofs.Undo.{two-digits}
-use Rattle.hex.proofs.Steps.{taken-first, taken-full, taken-byte, accepted-bad, accepted-none, accepted-digit}
+use Rattle.hex.proofs.Characters.{taken-first, taken-full, taken-byte, accepted-bad, accepted-none, accepted-digit}
 
 -- whole bytes so far, and a first digit behind them
 abbrev ready : ℕ → Line

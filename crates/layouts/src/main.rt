@@ -1,5 +1,5 @@
 // Prints the sector in each slot of some layouts, and holds one against the S1420 manual.
-use base::same_bytes;
+use base::bytes::same_bytes;
 use interleave::layout;
 ghost use Prim.Native.Nat.{_≤_, _<_};
 

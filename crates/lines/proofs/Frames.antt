@@ -13,12 +13,12 @@ use lib.Dec.{eqb}
 use borrow.Author.Tests.{eq-eqb, ne-eqb}
 use Rattle.base.specs.Part.{splice}
 use Rattle.base.proofs.Decide.{pick-true, pick-false}
-use Rattle.hex.specs.declared.line.Line.{Line}
-use Rattle.hex.specs.Line.{lineNow, wholeOf}
 use Rattle.model.specs.declared.record.Controller.{Controller}
 use Rattle.model.specs.declared.record.Outcome.{Outcome}
 use Rattle.model.specs.Engine.{execute, resetOf}
-use Rattle.engine.specs.Steps.{resultNow}
+use Rattle.engine.specs.Results.{resultNow}
+use Rattle.hex.specs.declared.line.Line.{Line}
+use Rattle.hex.specs.Line.{lineNow, wholeOf}
 use Rattle.lines.specs.Said.{answerText, badText, Said, saidNow, resultSaid, frameSaid, resetSaid, isReset, lineSaid}
 use Rattle.lines.specs.declared.Told.{Told}
 use Rattle.lines.proofs.Texts.{told-text}

@@ -8,8 +8,8 @@ use lib.ListN.{length, take, drop, set, length-append}
 use lib.Seq.{take-at, take-append-seam, drop-append-add, drop-drop, set-split}
 use Rattle.base.specs.Part.{splice}
 use Rattle.base.proofs.Parts.{length-splice}
-use Rattle.hex.specs.Hex.{encoded}
 use Rattle.model.specs.declared.record.Answer.{Answer}
+use Rattle.hex.specs.Hex.{encoded}
 use Rattle.lines.specs.Said.{answerText, badText}
 
 -- ---- one text behind another

@@ -6,10 +6,10 @@ use mathlib.Core.List.{List, [], _∷_, _++_}
 use lib.ListN.{length, take, drop, getD}
 use lib.Dec.{eqb}
 use Rattle.base.specs.Pick.{pick}
-use Rattle.hex.specs.Hex.{encoded}
 use Rattle.model.specs.declared.record.Answer.{Answer}
 use Rattle.model.specs.declared.record.Controller.{Controller}
 use Rattle.model.specs.Engine.{Result, execute, resetOf}
+use Rattle.hex.specs.Hex.{encoded}
 use Rattle.lines.specs.declared.Told.{Told}
 
 -- Number, status, message, data; then a line feed.

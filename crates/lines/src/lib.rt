@@ -9,8 +9,8 @@ ghost use mathlib.Core.Path.{_≡_};
 ghost use Prim.Native.Nat.{_+_, _*_, _≤_, min};
 ghost use lib.ListN.{length, take};
 ghost use Rattle.base.specs.Part.{splice};
-ghost use Rattle.hex.specs.Line.{lineNow, wholeOf};
 ghost use Rattle.model.specs.Engine.{imagesOf};
+ghost use Rattle.hex.specs.Line.{lineNow, wholeOf};
 ghost use Rattle.lines.specs.Said.{answerText, badText, resetSaid, isReset, saidNow, frameSaid, lineSaid};
 
 const LINE_FEED: u8 = 0x0A;

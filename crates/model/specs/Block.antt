@@ -4,7 +4,7 @@ use mathlib.Core.Bool.{Bool}
 use mathlib.Core.List.{List}
 use lib.Dec.{leb, eqb}
 use Rattle.base.specs.Pick.{pick}
-use Rattle.geometry.specs.Config.{byte}
+use Rattle.base.specs.Byte.{byte}
 use Rattle.geometry.specs.declared.params.Lba.{Lba}
 use Rattle.model.specs.declared.block.Block.{Block}
 

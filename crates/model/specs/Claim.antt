@@ -18,31 +18,31 @@ use Rattle.track.specs.Image.{trackBytes, slotData}
 use Rattle.track.specs.Find.{Slot, sectorFound}
 use Rattle.model.specs.declared.record.Controller.{Controller}
 use Rattle.model.specs.declared.record.Answer.{Answer}
-use Rattle.model.specs.Calls.{Call, reset, command, Reply}
+use Rattle.model.specs.Feed.{Feed, reset, command, Reply}
 use Rattle.model.specs.Engine.{Result, imageOf, execute, fresh, resetOf}
 use Rattle.model.specs.Machine.{Kind, stateless, sound, bad, moved, taken, Disk, Machine, freshMachine, step}
 
--- ---- The plain machine, fed with a list of calls: its replies, and what it is at the end
-unfoldable pub replies : Machine → List Call → List Reply
+-- ---- The plain machine, fed call by call: its replies, and what it is at the end
+unfoldable pub replies : Machine → List Feed → List Reply
 replies m [] = []
-replies m (call ∷ calls) = step m call .0 ∷ replies (step m call .1) calls
+replies m (feed ∷ feeds) = step m feed .0 ∷ replies (step m feed .1) feeds
 
-unfoldable pub atEnd : Machine → List Call → Machine
+unfoldable pub atEnd : Machine → List Feed → Machine
 atEnd m [] = m
-atEnd m (call ∷ calls) = atEnd (step m call .1) calls
+atEnd m (feed ∷ feeds) = atEnd (step m feed .1) feeds
 
 -- ---- The engine: the controller and the images lent
-pub record State : Type 0 where
+pub record System : Type 0 where
   pub controller : Controller
   pub images : List (List ℕ)
 
 -- A Reset, or a command of any bytes and lengths; of the data area its old bytes.
-pub data Order : Type 0 where
-  Reset : Order
-  Command : (block given area : List ℕ) → Order
+pub data Call : Type 0 where
+  Reset : Call
+  Command : (block given area : List ℕ) → Call
 
 -- Of the data area the machine is fed the length.
-unfoldable pub fed : Order → Call
+unfoldable pub fed : Call → Feed
 fed Reset = reset
 fed (Command block given area) = command block given (length area)
 
@@ -58,29 +58,29 @@ replyOf answer area = record {
 }
 
 -- What a call replies, and what it leaves for the next.
-unfoldable pub replied : Result → Reply × State
+unfoldable pub replied : Result → Reply × System
 replied r = (
   replyOf (r .outcome .answer) (r .area),
   record { controller = r .outcome .controller; images = r .images },
 )
 
 -- One call: what `reset` and `execute` promise to leave.
-unfoldable pub called : State → Order → Reply × State
+unfoldable pub called : System → Call → Reply × System
 called s Reset = replied (record { outcome = resetOf (s .images); area = []; images = s .images })
 called s (Command block given area) = replied (execute (s .controller) block given area (s .images))
 
 -- A list of calls, each of which gets the controller and the images that the call before left: its replies, and what is left
 -- at the end.
-unfoldable pub engineReplies : State → List Order → List Reply
+unfoldable pub engineReplies : System → List Call → List Reply
 engineReplies s [] = []
-engineReplies s (order ∷ orders) = called s order .0 ∷ engineReplies (called s order .1) orders
+engineReplies s (call ∷ calls) = called s call .0 ∷ engineReplies (called s call .1) calls
 
-unfoldable pub engineAtEnd : State → List Order → State
+unfoldable pub engineAtEnd : System → List Call → System
 engineAtEnd s [] = s
-engineAtEnd s (order ∷ orders) = engineAtEnd (called s order .1) orders
+engineAtEnd s (call ∷ calls) = engineAtEnd (called s call .1) calls
 
 -- ---- From a fresh controller and images without a valid label, such as zeros: no configuration is stored
-unfoldable pub begin : (images : List (List ℕ)) → State
+unfoldable pub begin : (images : List (List ℕ)) → System
 begin images = record { controller = fresh images; images = images }
 
 -- The machine is fed the image lengths.
@@ -109,8 +109,8 @@ Holds medium u image =
 unfoldable pub Claim : Type 0
 Claim =
     (images : List (List ℕ)) → ((drive : ℕ) → drive < 4 → labelSetting (mediumOf drive) (imageOf drive images) ≡ Invalid)
-    → (orders : List Order)
-    → let s = engineAtEnd (begin images) orders in
-    (engineReplies (begin images) orders ≡ replies (beginMachine images) (map fed orders))
+    → (calls : List Call)
+    → let s = engineAtEnd (begin images) calls in
+    (engineReplies (begin images) calls ≡ replies (beginMachine images) (map fed calls))
     × ((drive : ℕ) → drive < 4
-    → Holds (mediumOf drive) (atEnd (beginMachine images) (map fed orders) .disks drive) (imageOf drive (s .images)))
+    → Holds (mediumOf drive) (atEnd (beginMachine images) (map fed calls) .disks drive) (imageOf drive (s .images)))

@@ -6,6 +6,7 @@ use lib.ListN.{length, replicate}
 use lib.Dec.{ltb, eqb}
 use Rattle.base.specs.Pick.{pick}
 use Rattle.base.specs.Part.{part, splice}
+use Rattle.base.specs.Byte.{byte}
 use Rattle.geometry.specs.declared.params.Lba.{Lba}
 use Rattle.geometry.specs.declared.params.Track.{Track}
 use Rattle.geometry.specs.declared.params.Params.{Params}
@@ -15,14 +16,15 @@ use Rattle.geometry.specs.declared.config.Setting.{Setting}
 use Rattle.geometry.specs.declared.config.Setting.the-variants.{Valid, Invalid}
 use Rattle.geometry.specs.Params.{trackCount, trackOf, lastAddress}
 use Rattle.geometry.specs.Medium.{mediumOf, isFloppy}
-use Rattle.geometry.specs.Config.{byte, settingOf, labelRest, labelHolds}
+use Rattle.geometry.specs.Config.{settingOf, labelRest, labelHolds}
 use Rattle.interleave.specs.Layout.{layoutOf}
-use Rattle.track.specs.declared.id.State.{State}
-use Rattle.track.specs.declared.id.State.the-variants.{Sound, Bad, Moved, Taken}
+use Rattle.track.specs.declared.state.State.{State}
+use Rattle.track.specs.declared.state.State.the-variants.{Sound, Bad, Moved, Taken}
+use Rattle.track.specs.State.{isBad, isMoved, isTaken}
 use Rattle.track.specs.Image.{withTrack}
-use Rattle.track.specs.Format.{formatted, soundFrom}
-use Rattle.track.specs.Check.{checkCode}
 use Rattle.track.specs.Pair.{stateOf, pairSplit}
+use Rattle.formatter.specs.Format.{formatted, soundFrom}
+use Rattle.formatter.specs.Check.{checkCode}
 use Rattle.sectors.specs.Transfer.{Transfer, begun, reading, writing}
 use Rattle.model.specs.declared.block.Block.{Block}
 use Rattle.model.specs.declared.table.Command.{Command}
@@ -33,25 +35,6 @@ use Rattle.model.specs.declared.verdict.Verdict.the-variants.{Passed}
 use Rattle.model.specs.Block.{countOf, fromBuffer, alternateOf}
 use Rattle.model.specs.Checks.{Test, on, judged}
 use Rattle.model.specs.Record.{driveAt, withDrive, withBuffer, Effect, good, failed, unless}
-
--- ---- The states that own checks ask about
-unfoldable pub isBad : State → Bool
-isBad Sound = false
-isBad Bad = true
-isBad (Moved u) = false
-isBad (Taken u) = false
-
-unfoldable pub isMoved : State → Bool
-isMoved Sound = false
-isMoved Bad = false
-isMoved (Moved u) = true
-isMoved (Taken u) = false
-
-unfoldable pub isTaken : State → Bool
-isTaken Sound = false
-isTaken Bad = false
-isTaken (Moved u) = false
-isTaken (Taken u) = true
 
 -- ---- 03 Request Sense: hands over 4 bytes, leaves the sense as it is.
 unfoldable pub requestSense : Block → Controller → (image : List ℕ) → Effect

@@ -2,9 +2,9 @@ pub mod Block
 pub mod Table
 pub mod Checks
 pub mod Sense
-pub mod Calls
 pub mod Record
 pub mod Commands
 pub mod Engine
+pub mod Feed
 pub mod Machine
 pub mod Claim

@@ -11,6 +11,7 @@ use lib.ListN.{length, take, drop, replicate}
 use lib.Dec.{ltb, leb, eqb}
 use Rattle.base.specs.Pick.{pick}
 use Rattle.base.specs.Same.{sameBytes}
+use Rattle.base.specs.Byte.{byte}
 use Rattle.geometry.specs.declared.params.Lba.{Lba}
 use Rattle.geometry.specs.declared.params.Track.{Track}
 use Rattle.geometry.specs.declared.params.Params.{Params}
@@ -20,7 +21,7 @@ use Rattle.geometry.specs.declared.config.Setting.{Setting}
 use Rattle.geometry.specs.declared.config.Setting.the-variants.{Valid, Invalid}
 use Rattle.geometry.specs.Params.{trackCount, trackOf}
 use Rattle.geometry.specs.Medium.{mediumOf}
-use Rattle.geometry.specs.Config.{byte, settingOf}
+use Rattle.geometry.specs.Config.{settingOf}
 use Rattle.model.specs.declared.block.Block.{Block}
 use Rattle.model.specs.declared.table.Command.{Command}
 use Rattle.model.specs.declared.table.Command.the-variants.{TestReady, Recalibrate, RequestSense, FormatDrive, CheckTrack, FormatTrack, FormatBadTrack, Read, Write, Seek, AssignAlternate, WriteBuffer, ReadBuffer, Initialize, Unknown}
@@ -30,7 +31,7 @@ use Rattle.model.specs.Block.{blockOf, countOf, fromBuffer}
 use Rattle.model.specs.Table.{entryOf}
 use Rattle.model.specs.Checks.{Test, on, judged, View, presentWith, judge}
 use Rattle.model.specs.Sense.{senseOf}
-use Rattle.model.specs.Calls.{Call, reset, command, Reply, bare}
+use Rattle.model.specs.Feed.{Feed, reset, command, Reply, bare}
 
 -- ---- State
 -- Per track sound, bad, moved to a track or taken by one; a track that was never formatted has no state.
@@ -367,7 +368,7 @@ unfoldable pub restored : Disk → Disk
 restored u = inForce (u .stored) false u
 
 -- Fed a Reset, or a command's block, given data and data area length.
-unfoldable pub step : Machine → Call → Reply × Machine
+unfoldable pub step : Machine → Feed → Reply × Machine
 step m reset = (bare 0, record { buffer = replicate 512 0; senses = λ d. replicate 4 0; disks = λ d. restored (m .disks d) })
 step m (command block given area) =
     pick (eqb (length block) 6) (ordered (blockOf block) given area m (m .disks (blockOf block .drive))) (bare 1, m)

@@ -10,7 +10,7 @@ use Rattle.geometry.specs.declared.params.Lba.{Lba}
 use Rattle.geometry.specs.declared.params.Track.{Track}
 use Rattle.geometry.specs.Params.{trackOf, sectorOf}
 use Rattle.track.specs.declared.find.Where.the-variants.{On, Off}
-use Rattle.track.specs.Id.{track}
+use Rattle.track.specs.State.{track}
 use Rattle.track.specs.Image.{trackBytes}
 use Rattle.track.specs.Find.{Fault, whereOf, slotUsed, sectorIn}
 use Rattle.track.proofs.Used.{sector-on, sector-off}

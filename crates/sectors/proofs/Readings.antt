@@ -19,8 +19,8 @@ use Rattle.geometry.specs.declared.params.Track.{Track}
 use Rattle.geometry.specs.Params.{trackCount}
 use Rattle.track.specs.declared.find.Where.the-variants.{On}
 use Rattle.track.specs.Image.{Fits, trackBytes, slotData}
-use Rattle.track.proofs.Images.{length-track, length-data}
 use Rattle.track.specs.Find.{Sector, Slot, Fault, whereOf, slotUsed, sectorIn}
+use Rattle.track.proofs.Images.{length-track, length-data}
 use Rattle.sectors.specs.Run.{onSlot, runDone, runRead}
 use Rattle.sectors.specs.Transfer.{Transfer, begun, ended, readSlot, onward, found, reading}
 use Rattle.sectors.proofs.Founds.{Code, found-slot, found-fault}

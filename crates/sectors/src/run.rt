@@ -1,5 +1,5 @@
 // Sectors of one track that follow each other, read and written. A run looks at each slot's ID at most once.
-use base::copy_bytes;
+use base::bytes::copy_bytes;
 use geometry::params::Params;
 use track::search::NO_SLOT;
 use track::search::look_for;

@@ -1,15 +1,9 @@
 pub mod Ids
 pub mod Images
-pub mod Formats
-pub mod Steps
-pub mod Sounds
 pub mod Finds
 pub mod Used
 pub mod Notes
 pub mod Searched
 pub mod Alike
-pub mod Numbers
-pub mod Checks
-pub mod Pairs
-pub mod Formed
 pub mod SameIds
+pub mod Pairs

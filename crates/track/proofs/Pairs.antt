@@ -10,8 +10,8 @@ use Rattle.base.proofs.Firsts.{Sought, sought-none, sought-hit, sought-more, so
 use Rattle.geometry.specs.declared.params.Params.{Params}
 use Rattle.geometry.specs.declared.params.Track.{Track}
 use Rattle.geometry.specs.Params.{trackCount}
-use Rattle.track.specs.declared.id.State.{State}
-use Rattle.track.specs.Id.{track}
+use Rattle.track.specs.declared.state.State.{State}
+use Rattle.track.specs.State.{track}
 use Rattle.track.specs.Pair.{stateOf, oneBelow, splits, pairSplit}
 
 or-false : (b : Bool) → b ≡ (b || false)

@@ -11,7 +11,8 @@ use Rattle.geometry.specs.Params.{trackCount, trackSize, imageLength}
 use Rattle.track.specs.declared.id.Id.{Id}
 use Rattle.track.specs.declared.find.Where.{Where}
 use Rattle.track.specs.declared.find.Where.the-variants.{On, Off}
-use Rattle.track.specs.Id.{track, idIn, ownId}
+use Rattle.track.specs.Id.{idIn, ownId}
+use Rattle.track.specs.State.{track}
 use Rattle.track.specs.Image.{trackBytes, withTrack, slotId, withData, firstId}
 use Rattle.track.specs.Find.{takenBy, whereBy, whereOf, slotUsed, sectorIn, sectorFrom, sectorFound}
 use Rattle.track.proofs.Images.{length-track, track-same, track-other, length-with-data, id-kept}

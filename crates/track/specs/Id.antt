@@ -1,4 +1,4 @@
--- Document 01, 'Tracks and slots': a track's states and a slot's 8 ID bytes.
+-- Document 01, 'Tracks and slots': a slot's 8 ID bytes.
 use Prim.Native.Nat.{ℕ, _+_, _*_, _/_, _%_}
 use mathlib.Core.Bool.{Bool, _&&_}
 use mathlib.Core.List.{List, [], _∷_}
@@ -8,26 +8,8 @@ use Rattle.geometry.specs.declared.params.Params.{Params}
 use Rattle.geometry.specs.declared.params.Track.{Track}
 use Rattle.geometry.specs.Params.{cylinderOf, headOf}
 use Rattle.track.specs.declared.id.Id.{Id}
-use Rattle.track.specs.declared.id.State.{State}
-use Rattle.track.specs.declared.id.State.the-variants.{Sound, Bad, Moved, Taken}
-
--- track number k
-abbrev pub track : ℕ → Track
-track k = record { 0 = k }
-
--- Flag 0 sound, 1 bad, 2 moved to the partner, 3 taken by the partner.
-unfoldable pub flagOf : State → ℕ
-flagOf Sound = 0
-flagOf Bad = 1
-flagOf (Moved u) = 2
-flagOf (Taken u) = 3
-
--- For 0 and 1 the partner is 0.
-unfoldable pub partnerOf : State → Track
-partnerOf Sound = track 0
-partnerOf Bad = track 0
-partnerOf (Moved u) = u
-partnerOf (Taken u) = u
+use Rattle.track.specs.declared.state.State.{State}
+use Rattle.track.specs.State.{track, flagOf, partnerOf}
 
 -- A1h, cylinder (high, low), head, sector, flag, partner track (high, low).
 unfoldable pub idBytes : Id → List ℕ
@@ -59,3 +41,7 @@ idFor p t state s = record {
 -- The cylinder and head are t's own.
 unfoldable pub ownId : Params → Track → Id → Bool
 ownId p t id = eqb (id .cylinder) (cylinderOf p t) && eqb (id .head) (headOf p t)
+
+-- the ID with another sector
+unfoldable pub withSector : Id → (s : ℕ) → Id
+withSector id s = record { mark = id .mark; cylinder = id .cylinder; head = id .head; sector = s; flag = id .flag; partner = id .partner }

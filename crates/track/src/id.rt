@@ -1,22 +1,18 @@
-// A slot's ID bytes, and a track's state.
+// A slot's ID bytes.
+use crate::state::State;
+use crate::state::flag_of;
+use crate::state::partner_of;
+use base::bytes::two_bytes;
 use geometry::params::Params;
 use geometry::params::Track;
 ghost use mathlib.Core.Path.{_≡_};
-ghost use Prim.Native.Nat.{_+_, _*_, _≤_, _<_};
+ghost use Prim.Native.Nat.{_+_, _≤_, _<_};
 ghost use lib.ListN.{length};
 ghost use Rattle.geometry.specs.Params.{Within, trackCount};
-ghost use Rattle.track.specs.Id.{flagOf, partnerOf, idBytes, idIn, idFor, ownId};
+ghost use Rattle.track.specs.Id.{idBytes, idIn, idFor, ownId};
 ghost use Rattle.track.specs.Image.{Fits, firstId};
 
 pub const ID_MARK: u8 = 0xA1;
-
-// The state that a format gives a track.
-pub enum State {
-    Sound,
-    Bad,
-    Moved(Track),
-    Taken(Track),
-}
 
 // What the 8 ID bytes of a slot say.
 pub struct Id {
@@ -26,28 +22,6 @@ pub struct Id {
     pub sector: u8,
     pub flag: u8,
     pub partner: Track,
-}
-
-fn flag_of(state: State) -> u8
-    ensures { λ r. ⌜ r ≡ flagOf state ⌝ }
-{
-    match state {
-        State::Sound => 0,
-        State::Bad => 1,
-        State::Moved(_) => 2,
-        State::Taken(_) => 3,
-    }
-}
-
-fn partner_of(state: State) -> Track
-    ensures { λ r. ⌜ r ≡ partnerOf state ⌝ }
-{
-    match state {
-        State::Sound => Track(0),
-        State::Bad => Track(0),
-        State::Moved(partner) => partner,
-        State::Taken(partner) => partner,
-    }
 }
 
 // The ID of sector s in a track of this state.
@@ -81,12 +55,6 @@ pub fn id_bytes(id: Id) -> [u8; 8]
         (partner.0 / 256) as u8,
         (partner.0 % 256) as u8,
     ]
-}
-
-fn two_bytes(high: u8, low: u8) -> u16
-    ensures { λ r. ⌜ r ≡ high * 256 + low ⌝ }
-{
-    (high as u16) * 256 + (low as u16)
 }
 
 // Reads the 8 ID bytes of a slot.

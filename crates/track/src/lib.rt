@@ -1,8 +1,7 @@
 // Tracks of an image: formatted, checked, and their sectors found. The library below the commands.
-pub mod check;
 pub mod find;
-pub mod format;
 pub mod id;
 pub mod pair;
 pub mod search;
 pub mod sector;
+pub mod state;

@@ -1,9 +1,9 @@
 // A track as the format commands see it.
 use crate::id::ID_MARK;
 use crate::id::Id;
-use crate::id::State;
 use crate::id::first_id;
 use crate::id::is_own;
+use crate::state::State;
 use geometry::params::Params;
 use geometry::params::Track;
 ghost use mathlib.Core.Path.{_≡_};

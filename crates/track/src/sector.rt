@@ -1,5 +1,5 @@
 // One sector's data in a track, which is its own stretch of the image.
-use base::copy_bytes;
+use base::bytes::copy_bytes;
 use geometry::params::Params;
 ghost use mathlib.Core.Path.{_≡_};
 ghost use Prim.Native.Nat.{_<_};

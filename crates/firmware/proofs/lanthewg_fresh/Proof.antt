@@ -1,6 +1,12 @@
 -- `lanthewg_fresh` meets its contract: a walk of its MIR, by hand. `fresh` is called, and the record that comes back is stored behind the
 -- reference.
 -- All that is known of `fresh` is its contract. The record is one machine value throughout: nothing here depends on its fields.
+use Rattle.model.specs.declared.record.Controller.{Controller}
+use Rattle.model.proofs.record.Controller as controller
+use Rattle.model.proofs.record.Controller.Laws as controller′
+use Rattle.engine.proofs.reset.fresh as fresh
+use Rattle.engine.proofs.reset.fresh.Symbol as fresh′
+use Rattle.engine.proofs.reset.fresh.Met as fresh-met
 use Rattle.walks.proofs.Kit.{_≡_, refl, [], _∷_, URA, named, SProp, id⊢, Memory, Routine, Heap, Calls, Loops, WpFn, Atoms, Fun, givenOf}
 use Rattle.walks.proofs.Kit.{Contract, Triple, Lasts, FmC, fmOf, Given, Item, raw, _$_, _∵_, !, qed, by, move, drop, rewrite, unit, nothing-makes}
 use Rattle.walks.proofs.Kit.{look, init, stop, from, of-opd, unit-lit, and-then, no-more, land, returns, calls-at}
@@ -10,12 +16,6 @@ use Rattle.walks.proofs.Records.{opens-record, closes-record}
 use Rattle.walks.proofs.Passed.{shared-slice}
 use Rattle.walks.proofs.Callee.{contractOf, ensured-by, offers, answered, routine-meets}
 use Rattle.walks.proofs.Lend.{others, Lends, Call, vals, flats, entry, to-ensure, suited, splits, exits, Walk, lent-meets}
-use Rattle.model.specs.declared.record.Controller.{Controller}
-use Rattle.model.proofs.record.Controller as controller
-use Rattle.model.proofs.record.Controller.Laws as controller′
-use Rattle.engine.proofs.reset.fresh as fresh
-use Rattle.engine.proofs.reset.fresh.Symbol as fresh′
-use Rattle.engine.proofs.reset.fresh.Met as fresh-met
 use Rattle.firmware.proofs.Outcomes.{record-typed}
 use Rattle.firmware.proofs.lanthewg_fresh as self
 use Rattle.firmware.proofs.lanthewg_fresh.Key as key

@@ -4,21 +4,21 @@ use mathlib.Core.Path.{_≡_, refl}
 use mathlib.Core.List.{List, [], _∷_, map}
 use lib.Dec.{eqb}
 use Rattle.base.specs.Pick.{pick}
+use Rattle.base.specs.Byte.{byte}
 use Rattle.geometry.specs.declared.params.Lba.{Lba}
 use Rattle.geometry.specs.declared.params.Track.{Track}
 use Rattle.geometry.specs.declared.params.Params.{Params}
 use Rattle.geometry.specs.Params.{trackOf}
-use Rattle.geometry.specs.Config.{byte}
-use Rattle.track.specs.Id.{track}
+use Rattle.track.specs.State.{track}
+use Rattle.track.specs.State.{isBad as badState, isMoved as movedState, isTaken as takenState}
 use Rattle.model.specs.declared.verdict.Verdict.{Verdict}
 use Rattle.model.specs.declared.verdict.Verdict.the-variants.{Refused, Faulty, Passed}
 use Rattle.model.specs.Block.{alternateOf}
 use Rattle.model.specs.Checks.{judged}
 use Rattle.model.specs.Sense.{addressed, senseOf}
 use Rattle.model.specs.Commands.{assignTests}
-use Rattle.model.specs.Commands.{isBad as badState, isMoved as movedState, isTaken as takenState}
 use Rattle.model.specs.Machine.{Kind, stateless, sound, bad, moved, taken, isBad, isMoved, isTaken, addressGiven, unassignable}
-use Rattle.model.proofs.Mirrors.{stateFor}
+use Rattle.model.proofs.claim.Mirrors.{stateFor}
 
 -- 32 sectors a track: track 0 sound, 1 bad, 2 moved to 3, 3 taken by 2, 4 never formatted
 p : Params

@@ -10,14 +10,15 @@ use Rattle.base.specs.First.{firstFrom, firstBelow, isSome, someBelow, everyBel
 use Rattle.base.specs.Same.{sameBytes}
 use Rattle.geometry.specs.declared.params.Params.{Params}
 use Rattle.interleave.specs.Layout.{emptyFrom, put, place, laid, layoutOf}
-use Rattle.track.specs.declared.id.State.{State}
-use Rattle.track.specs.declared.id.State.the-variants.{Sound, Bad, Moved, Taken}
-use Rattle.track.specs.Id.{track, flagOf, partnerOf, idBytes, idIn, idFor, ownId}
+use Rattle.track.specs.declared.state.State.{State}
+use Rattle.track.specs.declared.state.State.the-variants.{Sound, Bad, Moved, Taken}
+use Rattle.track.specs.Id.{idBytes, idIn, idFor, ownId, withSector}
+use Rattle.track.specs.State.{track, flagOf, partnerOf}
 use Rattle.track.specs.Image.{trackBytes, withTrack, slotId, slotData, withData, firstId}
-use Rattle.track.specs.Format.{withSector, slotMade, slotsMade, formatted}
 use Rattle.track.specs.Find.{Sector, Slot, Fault, takenBy, whereBy, whereOf, holds, slotUsed, sectorIn, sectorFrom, sectorFound}
-use Rattle.track.specs.Check.{idIs, idsAre, homeState, checkedOn, checkCode}
 use Rattle.track.specs.Pair.{stateBy, stateOf, oneBelow, splits, pairSplit}
+use Rattle.formatter.specs.Format.{slotMade, slotsMade, formatted}
+use Rattle.formatter.specs.Check.{idIs, idsAre, homeState, checkedOn, checkCode}
 use Rattle.sectors.specs.Transfer.{begun, ended, readSlot, writeSlot, onward, found, reading, writing}
 
 p : Params

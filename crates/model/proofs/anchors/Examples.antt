@@ -17,11 +17,12 @@ use Rattle.geometry.specs.Params.{imageLength, trackCount, trackOf, cylinderOf,
 use Rattle.geometry.specs.Medium.{mediumOf, isFloppy, isIn, rangesOf}
 use Rattle.geometry.specs.Config.{sizeFor, fittedTo, fieldsIn, settingBy, settingOf, isValid}
 use Rattle.interleave.specs.Layout.{emptyFrom, put, place, laid, layoutOf}
-use Rattle.track.specs.declared.id.State.the-variants.{Moved, Taken}
-use Rattle.track.specs.Id.{track, flagOf, partnerOf, idBytes, idIn, idFor, ownId}
+use Rattle.track.specs.declared.state.State.the-variants.{Moved, Taken}
+use Rattle.track.specs.Id.{idBytes, idIn, idFor, ownId, withSector}
+use Rattle.track.specs.State.{track, flagOf, partnerOf}
 use Rattle.track.specs.Image.{trackBytes, withTrack, slotId, firstId}
-use Rattle.track.specs.Format.{withSector, slotMade, slotsMade, formatted}
 use Rattle.track.specs.Pair.{stateBy, stateOf, oneBelow, splits, pairSplit}
+use Rattle.formatter.specs.Format.{slotMade, slotsMade, formatted}
 use Rattle.model.specs.declared.block.Block.{Block}
 use Rattle.model.specs.declared.record.Controller.{Controller}
 use Rattle.model.specs.declared.verdict.Verdict.the-variants.{Faulty, Passed}

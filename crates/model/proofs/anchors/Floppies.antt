@@ -12,7 +12,7 @@ use Rattle.model.specs.Block.{blockOf, countOf, fromBuffer}
 use Rattle.model.specs.Table.{entryOf}
 use Rattle.model.specs.Checks.{judged, presentWith, controlWrong, lacks, reach, testsWith, tests, sizeIn, bytesOf, lengthsWith, judge}
 use Rattle.model.specs.Sense.{addressed, senseOf}
-use Rattle.model.specs.Calls.{reset}
+use Rattle.model.specs.Feed.{reset}
 use Rattle.model.specs.Machine.{freshDisk, freshMachine, changed, withSense, withBuffer, withDisk, inForce, becomes, filled, storing}
 use Rattle.model.specs.Machine.{failing, well, providing}
 use Rattle.model.specs.Machine.{isBad, isMoved, isTaken, denied, paired, parted, partedBy, someParted, addressGiven, unassignable}

@@ -12,11 +12,12 @@ use Rattle.geometry.specs.declared.params.Params.{Params}
 use Rattle.geometry.specs.declared.config.Setting.the-variants.{Valid}
 use Rattle.geometry.specs.Medium.{mediumOf, isFloppy}
 use Rattle.interleave.specs.Layout.{emptyFrom, put, place, laid, layoutOf}
-use Rattle.track.specs.declared.id.State.the-variants.{Bad}
-use Rattle.track.specs.Id.{track, flagOf, partnerOf, idBytes, idIn, idFor, ownId}
+use Rattle.track.specs.declared.state.State.the-variants.{Bad}
+use Rattle.track.specs.Id.{idBytes, idIn, idFor, ownId, withSector}
+use Rattle.track.specs.State.{track, flagOf, partnerOf, isBad, isMoved, isTaken}
 use Rattle.track.specs.Image.{trackBytes, withTrack, slotId, firstId}
-use Rattle.track.specs.Format.{withSector, slotMade, slotsMade, stepped, afterSteps, formatted, soundFrom}
 use Rattle.track.specs.Pair.{stateBy, stateOf, splits, pairSplit}
+use Rattle.formatter.specs.Format.{slotMade, slotsMade, stepped, afterSteps, formatted, soundFrom}
 use Rattle.model.specs.declared.table.Command.{Command}
 use Rattle.model.specs.declared.table.Command.the-variants.{FormatDrive, FormatTrack, FormatBadTrack, AssignAlternate}
 use Rattle.model.specs.declared.record.Drive.{Drive}
@@ -24,7 +25,7 @@ use Rattle.model.specs.declared.record.Controller.{Controller}
 use Rattle.model.specs.Block.{blockOf, fromBuffer, alternateOf}
 use Rattle.model.specs.Checks.{judged}
 use Rattle.model.specs.Record.{blankDrive, driveAt, good, unless}
-use Rattle.model.specs.Commands.{isBad, isMoved, isTaken, plainByte, plainFill, fillOf, madeAt, driveFormatted, formatDrive, aloneTests}
+use Rattle.model.specs.Commands.{plainByte, plainFill, fillOf, madeAt, driveFormatted, formatDrive, aloneTests}
 use Rattle.model.specs.Commands.{formatTrack, assignTests, assigned, assignAlternate, onDisk, carryOut}
 
 p : Params

@@ -17,7 +17,7 @@ use Rattle.model.specs.Block.{blockOf, countOf, fromBuffer, alternateOf}
 use Rattle.model.specs.Table.{entryOf}
 use Rattle.model.specs.Checks.{View, judged, presentWith, controlWrong, lacks, reach, testsWith, tests, sizeIn, bytesOf, lengthsWith, judge}
 use Rattle.model.specs.Sense.{addressed, senseOf}
-use Rattle.model.specs.Calls.{command}
+use Rattle.model.specs.Feed.{command}
 use Rattle.model.specs.Record.{settingIn, bareOutcome, failedOutcome, failed, unless}
 use Rattle.model.specs.Engine.{viewOf, obey, left, execute, fresh}
 use Rattle.model.specs.Machine.{freshDisk, freshMachine, failing, providing, addressGiven, settingWith, seen, ordered, step}

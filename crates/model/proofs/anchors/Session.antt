@@ -11,7 +11,7 @@ use Rattle.model.specs.Block.{blockOf, countOf, fromBuffer}
 use Rattle.model.specs.Table.{entryOf}
 use Rattle.model.specs.Checks.{judged, presentWith, controlWrong, lacks, reach, testsWith, tests, sizeIn, bytesOf, lengthsWith, judge}
 use Rattle.model.specs.Sense.{addressed, senseOf}
-use Rattle.model.specs.Calls.{Call, reset, command, Reply}
+use Rattle.model.specs.Feed.{Feed, reset, command, Reply}
 use Rattle.model.specs.Machine.{freshDisk, freshMachine, changed, withSense, withBuffer, withDisk, inForce, becomes, filled, storing}
 use Rattle.model.specs.Machine.{failing, well, providing}
 use Rattle.model.specs.Machine.{isBad, isMoved, isTaken, denied, paired, parted, partedBy, someParted, addressGiven, unassignable}
@@ -23,7 +23,7 @@ use Rattle.model.specs.Claim.{replies}
 
 -- ---- A call and its answer in brief: number, status, message, sectors, bytes, and the first four bytes handed over
 pub record Line : Type 0 where
-  pub call : Call
+  pub call : Feed
   pub answer : List ℕ
 
 unfoldable pub brief : Reply → List ℕ

@@ -2,9 +2,6 @@ use borrow.Author.Needs.{needs}
 use Rattle.engine.proofs.Resets.{fresh-of}
 use Rattle.engine.proofs.reset.fresh.Statement.{statement}
 use Rattle.engine.proofs.reset.fresh.Tie as tie
-use Rattle.engine.proofs.reset.fresh.Reads as reads
-use Rattle.engine.proofs.reset.fresh.Lts as lts
-use Rattle.engine.proofs.reset.load.Reads as load-reads
 
 load-requires : tie.Need-load-requires
 load-requires c κs = search needs

@@ -3,10 +3,6 @@ use Rattle.model.specs.Record.{bareOutcome}
 use borrow.Author.Needs.{needs}
 use Rattle.engine.proofs.reset.reset.Statement.{statement}
 use Rattle.engine.proofs.reset.reset.Tie as tie
-use Rattle.engine.proofs.reset.reset.Reads as reads
-use Rattle.engine.proofs.reset.reset.Lts as lts
-use Rattle.control.proofs.record.bare_answer.Reads as bare-answer-reads
-use Rattle.engine.proofs.reset.fresh.Reads as fresh-reads
 
 fresh-requires : tie.Need-fresh-requires
 fresh-requires c κs = search needs

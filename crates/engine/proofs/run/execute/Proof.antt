@@ -5,11 +5,6 @@ use native.Mathlib.Omega.{arith}
 use borrow.Author.Needs.{needs}
 use Rattle.engine.proofs.run.execute.Statement.{statement}
 use Rattle.engine.proofs.run.execute.Tie as tie
-use Rattle.engine.proofs.run.execute.Reads as reads
-use Rattle.engine.proofs.run.execute.Lts as lts
-use Rattle.control.proofs.block.decode.Reads as decode-reads
-use Rattle.control.proofs.record.bare_answer.Reads as bare-answer-reads
-use Rattle.engine.proofs.run.on_images.Reads as on-images-reads
 
 bare-answer-requires : tie.Need-bare-answer-requires
 bare-answer-requires c κs = search needs

@@ -1,12 +1,9 @@
-use Rattle.control.specs.Leaves.{recordOf}
 use Rattle.model.specs.Engine.{imagesOf}
+use Rattle.endings.specs.Leaves.{recordOf}
 use Rattle.engine.proofs.Executes.{on-image, fourth}
 use borrow.Author.Needs.{needs}
 use Rattle.engine.proofs.run.on_images.Statement.{statement}
 use Rattle.engine.proofs.run.on_images.Tie as tie
-use Rattle.engine.proofs.run.on_images.Reads as reads
-use Rattle.engine.proofs.run.on_images.Lts as lts
-use Rattle.engine.proofs.run.obey.Reads as obey-reads
 
 obey-requires : tie.Need-obey-requires
 obey-requires c κs = search needs

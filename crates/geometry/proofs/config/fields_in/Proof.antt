@@ -3,9 +3,6 @@ use Rattle.geometry.specs.Config.{fieldsIn}
 use borrow.Author.Needs.{needs}
 use Rattle.geometry.proofs.config.fields_in.Statement.{statement}
 use Rattle.geometry.proofs.config.fields_in.Tie as tie
-use Rattle.geometry.proofs.config.fields_in.Reads as reads
-use Rattle.geometry.proofs.config.fields_in.Lts as lts
-use Rattle.geometry.proofs.medium.is_in.Reads as is-in-reads
 
 is-in-requires : tie.Need-is-in-requires
 is-in-requires c κs = search needs

@@ -5,10 +5,6 @@ use lib.ListN.{length}
 use Rattle.geometry.proofs.Labels.{label-long, holds-none, holds-ten}
 use Rattle.geometry.proofs.config.label_holds.Statement.{statement}
 use Rattle.geometry.proofs.config.label_holds.Tie as tie
-use Rattle.geometry.proofs.config.label_holds.Reads as reads
-use Rattle.geometry.proofs.config.label_holds.Lts as lts
-use Rattle.base.proofs.same_bytes.Reads as same-bytes-reads
-use Rattle.geometry.proofs.config.label_setting.Reads as label-setting-reads
 
 label-setting-requires : tie.Need-label-setting-requires
 label-setting-requires c κs = search needs

@@ -2,13 +2,6 @@ use Rattle.geometry.proofs.Settings.{size-below, size-within, fields-fi
 use borrow.Author.Needs.{needs}
 use Rattle.geometry.proofs.config.setting_by.Statement.{statement}
 use Rattle.geometry.proofs.config.setting_by.Tie as tie
-use Rattle.geometry.proofs.config.setting_by.Reads as reads
-use Rattle.geometry.proofs.config.setting_by.Lts as lts
-use Rattle.geometry.proofs.config.fields_in.Reads as fields-in-reads
-use Rattle.geometry.proofs.config.fitted.Reads as fitted-reads
-use Rattle.geometry.proofs.config.size_for.Reads as size-for-reads
-use Rattle.geometry.proofs.config.sized.Reads as sized-reads
-use Rattle.geometry.proofs.medium.ranges_of.Reads as ranges-of-reads
 
 ranges-of-requires : tie.Need-ranges-of-requires
 ranges-of-requires c κs = search needs

@@ -14,6 +14,9 @@ array-read-two-bytes-2 c = search needs
 two-bytes-requires : tie.Need-two-bytes-requires
 two-bytes-requires c κs = search needs
 
+cast-setting-by : tie.Need-cast-setting-by
+cast-setting-by c = search needs
+
 array-read-setting-by : tie.Need-array-read-setting-by
 array-read-setting-by c = search needs
 
@@ -41,6 +44,7 @@ setting-of-spec =
     array-read-two-bytes
     array-read-two-bytes-2
     two-bytes-requires
+    cast-setting-by
     array-read-setting-by
     array-read-setting-by-2
     array-read-setting-by-3

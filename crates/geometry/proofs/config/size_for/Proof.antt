@@ -3,8 +3,6 @@ use Rattle.geometry.proofs.Settings.{size-row}
 use borrow.Author.Needs.{needs}
 use Rattle.geometry.proofs.config.size_for.Statement.{statement}
 use Rattle.geometry.proofs.config.size_for.Tie as tie
-use Rattle.geometry.proofs.config.size_for.Reads as reads
-use Rattle.geometry.proofs.config.size_for.Lts as lts
 
 mul-result : tie.Need-mul-result
 mul-result c = search needs

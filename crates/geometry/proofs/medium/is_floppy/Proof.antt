@@ -2,8 +2,6 @@ use Rattle.geometry.specs.Medium.{isFloppy}
 use borrow.Author.Needs.{needs}
 use Rattle.geometry.proofs.medium.is_floppy.Statement.{statement}
 use Rattle.geometry.proofs.medium.is_floppy.Tie as tie
-use Rattle.geometry.proofs.medium.is_floppy.Reads as reads
-use Rattle.geometry.proofs.medium.is_floppy.Lts as lts
 
 enum-told : tie.Need-enum-told
 enum-told c = search needs

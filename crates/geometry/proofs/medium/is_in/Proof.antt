@@ -3,8 +3,6 @@ use Rattle.base.proofs.Decide.{decide}
 use Rattle.geometry.specs.Medium.{isIn}
 use Rattle.geometry.proofs.medium.is_in.Statement.{statement}
 use Rattle.geometry.proofs.medium.is_in.Tie as tie
-use Rattle.geometry.proofs.medium.is_in.Reads as reads
-use Rattle.geometry.proofs.medium.is_in.Lts as lts
 
 returns : tie.Need-returns
 unfolding isIn

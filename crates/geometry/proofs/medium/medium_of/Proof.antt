@@ -3,8 +3,6 @@ use Rattle.base.proofs.Decide.{decide}
 use Rattle.geometry.specs.Medium.{mediumOf}
 use Rattle.geometry.proofs.medium.medium_of.Statement.{statement}
 use Rattle.geometry.proofs.medium.medium_of.Tie as tie
-use Rattle.geometry.proofs.medium.medium_of.Reads as reads
-use Rattle.geometry.proofs.medium.medium_of.Lts as lts
 
 returns : tie.Need-returns
 unfolding mediumOf

@@ -2,8 +2,6 @@ use Rattle.geometry.specs.Medium.{rangesOf}
 use borrow.Author.Needs.{needs}
 use Rattle.geometry.proofs.medium.ranges_of.Statement.{statement}
 use Rattle.geometry.proofs.medium.ranges_of.Tie as tie
-use Rattle.geometry.proofs.medium.ranges_of.Reads as reads
-use Rattle.geometry.proofs.medium.ranges_of.Lts as lts
 
 enum-told : tie.Need-enum-told
 enum-told c = search needs

@@ -1,5 +1,5 @@
 use borrow.Author.Needs.{needs}
-use Rattle.hex.proofs.Steps.{accepted-bad, accept-none, accept-small, accept-digit}
+use Rattle.hex.proofs.Characters.{accepted-bad, accept-none, accept-small, accept-digit}
 use mathlib.Core.Path.{sym}
 use Rattle.hex.proofs.line.accept.Statement.{statement}
 use Rattle.hex.proofs.line.accept.Tie as tie

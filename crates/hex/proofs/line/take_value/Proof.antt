@@ -1,5 +1,5 @@
 use borrow.Author.Needs.{needs}
-use Rattle.hex.proofs.Steps.{taken-first, take-full, taken-byte}
+use Rattle.hex.proofs.Characters.{taken-first, take-full, taken-byte}
 use borrow.Author.Tests.{not-true, not-false}
 use mathlib.Core.Path.{sym}
 use Rattle.hex.proofs.line.take_value.Statement.{statement}

@@ -1,8 +1,8 @@
 use mathlib.Core.Path.{ap, _∙_}
 use native.Mathlib.Omega.{arith}
 use Rattle.track.specs.Image.{firstId}
-use Rattle.track.proofs.Images.{first-lent}
 use Rattle.track.specs.Id.{idIn}
+use Rattle.track.proofs.Images.{first-lent}
 use borrow.Author.Needs.{needs}
 use Rattle.track.proofs.id.first_id.Statement.{statement}
 use Rattle.track.proofs.id.first_id.Tie as tie

@@ -1,0 +1,144 @@
+-- Assign Alternate: its tests one by one, what they say of the tracks and of the codes, and how it ends.
+use mathlib.Core.Path.{_≡_, refl, sym, _∙_}
+use mathlib.Core.Bool.{Bool, _||_}
+use mathlib.Core.List.{List, [], _∷_}
+use Prim.Native.Nat.{ℕ, _-_, _≤_, _<_}
+use native.Mathlib.Omega.{arith}
+use lib.ListN.{take}
+use lib.Dec.{eqb}
+use borrow.Author.Tests.{lt-ltb, le-ltb, ltb-false}
+use Rattle.base.specs.Part.{part}
+use Rattle.base.specs.Byte.{byte}
+use Rattle.geometry.specs.declared.params.Lba.{Lba}
+use Rattle.geometry.specs.declared.params.Track.{Track}
+use Rattle.geometry.specs.declared.params.Params.{Params}
+use Rattle.geometry.specs.Params.{Within, trackCount, trackOf, lastAddress}
+use Rattle.geometry.specs.Medium.{mediumOf}
+use Rattle.geometry.proofs.Addresses.{track-in}
+use Rattle.geometry.proofs.Sizes.{sectors-some}
+use Rattle.track.specs.declared.state.State.{State}
+use Rattle.track.specs.declared.state.State.the-variants.{Moved, Taken}
+use Rattle.track.specs.Pair.{stateOf}
+use Rattle.track.specs.State.{isBad, isMoved, isTaken}
+use Rattle.model.specs.declared.block.Block.{Block}
+use Rattle.model.specs.declared.record.Controller.{Controller}
+use Rattle.model.specs.declared.record.Outcome.{Outcome}
+use Rattle.model.specs.declared.verdict.Verdict.{Verdict}
+use Rattle.model.specs.declared.verdict.Verdict.the-variants.{Refused, Faulty, Passed}
+use Rattle.model.specs.Block.{alternateOf}
+use Rattle.model.specs.Checks.{on, judged}
+use Rattle.model.specs.Record.{bareOutcome, failedOutcome, goodOutcome}
+use Rattle.model.specs.Commands.{fillOf, plainFill, madeAt, assignTests, assigned, assignAlternate}
+use Rattle.model.proofs.engine.Judged.{judged-hit, judged-on, passed-on, fault-in, fault-none, passed-faulty}
+use Rattle.endings.specs.Leaves.{silent}
+use Rattle.endings.proofs.Verdicts.{ends-refused, ends-faulty, ends-well}
+use Rattle.formats.proofs.Makings.{fill-lent}
+
+-- the alternate track is of this drive
+pub alternate-in : (p : Params) → Within p → (alternate last : Lba) → last ≡ lastAddress p → alternate .0 ≤ last .0
+    → trackOf p alternate .0 < trackCount p
+alternate-in p w alternate last el h =
+    let k : alternate .0 ≤ lastAddress p .0 = rw el at h in
+    track-in p w alternate (omega (arith, sectors-some p w))
+
+-- what its own checks say of an image
+abbrev pub verdictOn : Params → (first : ℕ) → (a alternate : Lba) → List ℕ → Verdict
+verdictOn p first a alternate image =
+    judged (assignTests p first a alternate (stateOf p (trackOf p a) image) (stateOf p (trackOf p alternate) image)) Passed
+
+-- ---- the tests, one by one
+module _ (p : Params) (first : ℕ) (a alternate : Lba) (stateA stateB : State) where
+  pub first-past : 0x1F < first → Faulty 0x22 a ≡ judged (assignTests p first a alternate stateA stateB) Passed
+  unfolding assignTests
+  first-past h = sym (judged-hit _ _ _ _ _ (lt-ltb _ _ h))
+
+  module _ (h : first ≤ 0x1F) (last : Lba) (el : last ≡ lastAddress p) where
+    pub alternate-past : last .0 < alternate .0 → Faulty 0x21 alternate ≡ judged (assignTests p first a alternate stateA stateB) Passed
+    unfolding assignTests
+    alternate-past k = sym (judged-on _ _ _ _ _ (le-ltb _ _ h) ∙ judged-hit _ _ _ _ _ (lt-ltb _ _ (rw el at k)))
+
+    pair-rest : alternate .0 ≤ last .0
+        → judged
+        (on (isMoved stateA) 0x1D a ∷ on (isTaken stateA) 0x1C a ∷ on (eqb (trackOf p alternate .0) (trackOf p a .0)) 0x22 a
+        ∷ on (isTaken stateB) 0x1D alternate ∷ on (isMoved stateB || isBad stateB) 0x1F alternate ∷ [])
+        Passed
+        ≡ judged (assignTests p first a alternate stateA stateB) Passed
+    unfolding assignTests
+    pair-rest k = sym (judged-on _ _ _ _ _ (le-ltb _ _ h) ∙ judged-on _ _ _ _ _ (le-ltb _ _ (rw el at k)))
+
+-- the tests of the pair, as calls make them
+module _ (p : Params) (first : ℕ) (a alternate : Lba) (image : List ℕ) (h : first ≤ 0x1F)
+    (last : Lba) (el : last ≡ lastAddress p) (k : alternate .0 ≤ last .0) (from to : Track) (ef : from ≡ trackOf p a) (et : to ≡ trackOf p alternate)
+    (one other : State) (eo : one ≡ stateOf p from image) (eb : other ≡ stateOf p to image) where
+  pub pair-judged : (moved taken away gone bad unfit : Bool) (verdict : Verdict) → moved ≡ isMoved one → taken ≡ isTaken one → away ≡ isTaken other
+      → gone ≡ isMoved other → bad ≡ isBad other → unfit ≡ (gone || bad)
+      → verdict
+      ≡ judged
+      (on moved 0x1D a ∷ on taken 0x1C a ∷ on (eqb (to .0) (from .0)) 0x22 a ∷ on away 0x1D alternate ∷ on unfit 0x1F alternate ∷ [])
+      Passed
+      → verdict ≡ verdictOn p first a alternate image
+  pair-judged moved taken away gone bad unfit verdict em en ea eg ed eu ev =
+      ev ∙ rw (em, en, ea, eu, eg, ed, eo, eb, ef, et) (pair-rest p first a alternate _ _ h last el k)
+
+-- ---- what a verdict says
+module _ (p : Params) (first : ℕ) (a alternate : Lba) (image : List ℕ) (verdict : Verdict) (ev : verdict ≡ verdictOn p first a alternate image) where
+  -- where all is passed, the alternate is of this drive
+  pub passed-in : Within p → verdict ≡ Passed → trackOf p alternate .0 < trackCount p
+  unfolding assignTests
+  passed-in w e =
+      alternate-in p w alternate _ refl (ltb-false _ _ (passed-on _ _ _ _ Passed (passed-on _ _ _ _ Passed (sym ev ∙ e) .1) .0))
+
+  -- a fault gives the block's address, or the alternate's, which is looked at only where the first byte is at most 1Fh
+  pub fault-below : (m : ℕ) → a .0 < m → (first ≤ 0x1F → alternate .0 < m) → (code : ℕ) (at : Lba) → verdict ≡ Faulty code at
+      → (code < 0x80) × (at .0 < m)
+  unfolding assignTests
+  fault-below m ha hb code at e =
+      let P : ℕ → Lba → Type 0 = λ k l. (k < 0x80) × (l .0 < m) in
+      fault-in P code at Passed _ _ _ _ (omega arith, ha)
+      (λ z.
+      let h = hb (ltb-false _ _ z) in
+      fault-in P code at Passed _ _ _ _ (omega arith, h)
+      (λ _. fault-in P code at Passed _ _ _ _ (omega arith, ha)
+      (λ _. fault-in P code at Passed _ _ _ _ (omega arith, ha)
+      (λ _. fault-in P code at Passed _ _ _ _ (omega arith, ha)
+      (λ _. fault-in P code at Passed _ _ _ _ (omega arith, h)
+      (λ _. fault-in P code at Passed _ _ _ _ (omega arith, h)
+      (λ _. fault-none P code at Passed (λ z. absurd (passed-faulty code at z)))))))))
+      (sym ev ∙ e)
+
+-- three bytes, of which the first is at most 1Fh, make an address of 21 bits
+pub alternate-below : (given : List ℕ) (alternate : Lba) → alternate ≡ alternateOf given → byte given 1 < 256 → byte given 2 < 256
+    → byte given 0 ≤ 0x1F → alternate .0 < 2097152
+unfolding alternateOf
+alternate-below given alternate e h₁ h₂ h₀ = rw e (omega arith)
+
+-- ---- what is made, and the three ends
+pub pair-made : (b : Block) (p : Params) (from to : Track) (plain fill image one left : List ℕ) → part 0 (p .size) plain ≡ plainFill (mediumOf (b .drive)) p
+    → one ≡ madeAt b p from (Moved to) (take (p .size - 0) plain) image → left ≡ madeAt b p to (Taken from) fill one
+    → left ≡ assigned b p from to fill image
+unfolding assigned
+pair-made b p from to plain fill image one left ep eo el = rw (← ep, ← fill-lent (p .size) plain, ← eo) el
+
+module _ (b : Block) (p : Params) (given : List ℕ) (c : Controller) (image : List ℕ) (outcome : Outcome)
+    (alternate : Lba) (ea : alternate ≡ alternateOf given) (verdict : Verdict)
+    (ev : verdict ≡ verdictOn p (byte given 0) (b .address) alternate image) where
+  is-verdict : verdictOn p (byte given 0) (b .address) (alternateOf given) image ≡ verdict
+  is-verdict = sym (ev ∙ rw ea)
+
+  pub assign-refused : (number : ℕ) → verdict ≡ Refused number → outcome ≡ bareOutcome number c
+      → silent outcome image ≡ assignAlternate b p given c image
+  unfolding assignAlternate
+  assign-refused number e eo = ends-refused b c image _ outcome _ number (is-verdict ∙ e) eo
+
+  pub assign-fails : (code : ℕ) (at : Lba) → verdict ≡ Faulty code at → outcome ≡ failedOutcome (b .drive) code at 0 0 c
+      → silent outcome image ≡ assignAlternate b p given c image
+  unfolding assignAlternate
+  assign-fails code at e eo = ends-faulty b c image _ outcome _ code at (is-verdict ∙ e) eo
+
+  pub assign-well : (from to : Track) (fill left : List ℕ) → verdict ≡ Passed → from ≡ trackOf p (b .address) → to ≡ trackOf p alternate
+      → part 0 (p .size) fill ≡ fillOf b p (c .buffer)
+      → left ≡ assigned b p from to (take (p .size - 0) fill) image → outcome ≡ goodOutcome (b .drive) 0 0 c
+      → silent outcome left ≡ assignAlternate b p given c image
+  unfolding assignAlternate
+  assign-well from to fill left e ef et ep el eo =
+      ends-well b c image _ outcome c _ left (is-verdict ∙ e) eo (el ∙ rw (ef, et, ea, fill-lent (p .size) fill ∙ ep))

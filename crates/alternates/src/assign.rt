@@ -1,0 +1,135 @@
+// Assign Alternate.
+use base::logic::either;
+use checks::block::alternate_of;
+use endings::record::Ending;
+use endings::record::failed;
+use endings::record::good;
+use endings::record::refused;
+use formats::making::fill_of;
+use formats::making::make_at;
+use formats::making::plain_fill;
+use geometry::medium::medium_of;
+use geometry::params::Lba;
+use geometry::params::Params;
+use geometry::params::Track;
+use model::block::Block;
+use model::record::Drive;
+use model::verdict::Verdict;
+use track::pair::state_of;
+use track::state::State;
+use track::state::is_bad;
+use track::state::is_moved;
+use track::state::is_taken;
+ghost use mathlib.Core.Path.{_≡_};
+ghost use mathlib.Core.List.{[], _∷_};
+ghost use Prim.Native.Nat.{_≤_, _<_};
+ghost use lib.ListN.{length};
+ghost use Rattle.geometry.specs.Params.{trackCount, trackOf};
+ghost use Rattle.track.specs.Image.{Fits};
+ghost use Rattle.track.specs.Pair.{stateOf};
+ghost use Rattle.model.specs.declared.verdict.Verdict.the-variants.{Passed};
+ghost use Rattle.model.specs.Checks.{on, judged};
+ghost use Rattle.model.specs.Commands.{assignTests, assigned, assignAlternate};
+ghost use Rattle.endings.specs.Leaves.{recordOf, leftWith, silent};
+
+// The faults of a pair of tracks, in document 01's order.
+fn pair_faults(
+    a: Lba,
+    alternate: Lba,
+    moved: bool,
+    taken: bool,
+    same: bool,
+    away: bool,
+    unfit: bool,
+) -> Verdict
+    ensures { λ r. ⌜ r ≡ judged (on moved 0x1D a ∷ on taken 0x1C a ∷ on same 0x22 a ∷ on away 0x1D alternate ∷ on unfit 0x1F alternate ∷ []) Passed ⌝ }
+{
+    if moved {
+        return Verdict::Faulty(0x1D, a);
+    }
+    if taken {
+        return Verdict::Faulty(0x1C, a);
+    }
+    if same {
+        return Verdict::Faulty(0x22, a);
+    }
+    if away {
+        return Verdict::Faulty(0x1D, alternate);
+    }
+    if unfit {
+        return Verdict::Faulty(0x1F, alternate);
+    }
+    Verdict::Passed
+}
+
+// Assign Alternate's own checks.
+fn assign_faults(image: &[u8], p: Params, first: u8, a: Lba, alternate: Lba) -> Verdict
+    requires { ⌜ Fits p (now image) × (trackOf p a .0 < trackCount p) ⌝ }
+    ensures { λ r. ⌜ r ≡ judged (assignTests p first a alternate (stateOf p (trackOf p a) (now (image .entry))) (stateOf p (trackOf p alternate) (now (image .entry)))) Passed ⌝ }
+{
+    if 0x1F < first {
+        return Verdict::Faulty(0x22, a);
+    }
+    let last = p.last_address();
+    if last.0 < alternate.0 {
+        return Verdict::Faulty(0x21, alternate);
+    }
+    let from = p.track_of(a);
+    let to = p.track_of(alternate);
+    let one = state_of(image, p, from);
+    let other = state_of(image, p, to);
+    pair_faults(
+        a,
+        alternate,
+        is_moved(one),
+        is_taken(one),
+        to.0 == from.0,
+        is_taken(other),
+        either(is_moved(other), is_bad(other)),
+    )
+}
+
+// A as moved to B, with the plain fill; B as taken by A.
+fn make_pair(image: &mut [u8], b: Block, p: Params, from: Track, to: Track, fill: &[u8])
+    requires { ⌜ Fits p (now image) × (from .0 < trackCount p) × (to .0 < trackCount p) × (b .extra < p .sectors) × (length (now fill) ≡ p .size) ⌝ }
+    ensures { λ _. ⌜ now (image .exit) ≡ assigned b p from to (now (fill .entry)) (now (image .entry)) ⌝ }
+{
+    let size = p.size;
+    let plain = plain_fill(medium_of(b.drive), p);
+    make_at(image, b, p, from, State::Moved(to), &plain[0..size]);
+    make_at(image, b, p, to, State::Taken(from), fill);
+}
+
+pub fn assign_alternate(
+    drives: [Drive; 4],
+    b: Block,
+    p: Params,
+    buffer: &[u8],
+    given: &[u8],
+    image: &mut [u8],
+) -> Ending
+    requires { ⌜ Fits p (now image) × (b .drive < 4) × (b .address .0 < 2097152) × (trackOf p (b .address) .0 < trackCount p) × (b .extra < p .sectors) × (3 ≤ length (now given)) × (length (now buffer) ≡ 512) ⌝ }
+    ensures { λ r. ⌜ silent (leftWith (now (buffer .entry)) r) (now (image .exit)) ≡ assignAlternate b p (now (given .entry)) (recordOf (now (buffer .entry)) drives) (now (image .entry)) ⌝ }
+{
+    let drive = b.drive;
+    let at = b.address;
+    let alternate = alternate_of(given);
+    let verdict = assign_faults(image, p, given[0], at, alternate);
+    match verdict {
+        Verdict::Refused(number) => refused(drives, number),
+        Verdict::Faulty(code, place) => failed(drives, drive, code, place, 0, 0),
+        Verdict::Passed => {
+            let size = p.size;
+            let fill = fill_of(b, p, buffer);
+            make_pair(
+                image,
+                b,
+                p,
+                p.track_of(at),
+                p.track_of(alternate),
+                &fill[0..size],
+            );
+            good(drives, drive, 0, 0)
+        }
+    }
+}

@@ -1,0 +1,2 @@
+// Assign Alternate.
+pub mod assign;

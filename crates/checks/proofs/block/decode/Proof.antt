@@ -1,0 +1,42 @@
+use borrow.Author.Needs.{needs}
+use Rattle.model.specs.Block.{blockOf}
+use Rattle.checks.proofs.block.decode.Statement.{statement}
+use Rattle.checks.proofs.block.decode.Tie as tie
+
+shared-slice-read-high : tie.Need-shared-slice-read-high
+shared-slice-read-high c = search needs
+
+shared-slice-read-t4 : tie.Need-shared-slice-read-t4
+shared-slice-read-t4 c = search needs
+
+shared-slice-read-lba-of : tie.Need-shared-slice-read-lba-of
+shared-slice-read-lba-of c = search needs
+
+shared-slice-read-lba-of-2 : tie.Need-shared-slice-read-lba-of-2
+shared-slice-read-lba-of-2 c = search needs
+
+lba-of-requires : tie.Need-lba-of-requires
+lba-of-requires c κs = search needs
+
+shared-slice-read-t16 : tie.Need-shared-slice-read-t16
+shared-slice-read-t16 c = search needs
+
+shared-slice-read-t18 : tie.Need-shared-slice-read-t18
+shared-slice-read-t18 c = search needs
+
+returns : tie.Need-returns
+unfolding blockOf
+returns c = search (needs, c .before .before .lba-of .ensures)
+
+pub decode-spec : {M : Type 1} → statement M
+decode-spec =
+    tie.close
+    (tie.spec
+    shared-slice-read-high
+    shared-slice-read-t4
+    shared-slice-read-lba-of
+    shared-slice-read-lba-of-2
+    lba-of-requires
+    shared-slice-read-t16
+    shared-slice-read-t18
+    returns)

@@ -1,0 +1,2 @@
+pub mod Initials
+pub mod Loads

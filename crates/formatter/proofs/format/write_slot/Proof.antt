@@ -1,0 +1,52 @@
+use Rattle.formatter.proofs.Steps.{slot-written}
+use borrow.Author.Needs.{needs}
+use Rattle.formatter.proofs.format.write_slot.Statement.{statement}
+use Rattle.formatter.proofs.format.write_slot.Tie as tie
+
+sub-copy-bytes : tie.Need-sub-copy-bytes
+sub-copy-bytes c = search needs
+
+part-copy-bytes-start : tie.Need-part-copy-bytes-start
+part-copy-bytes-start c = search needs
+
+part-copy-bytes-end : tie.Need-part-copy-bytes-end
+part-copy-bytes-end c = search needs
+
+copy-bytes-requires : tie.Need-copy-bytes-requires
+copy-bytes-requires c κs = search needs
+
+sub-copy-bytes-2 : tie.Need-sub-copy-bytes-2
+sub-copy-bytes-2 c = search needs
+
+part-copy-bytes-start-2 : tie.Need-part-copy-bytes-start-2
+part-copy-bytes-start-2 c = search needs
+
+part-copy-bytes-end-2 : tie.Need-part-copy-bytes-end-2
+part-copy-bytes-end-2 c = search needs
+
+copy-bytes-requires-2 : tie.Need-copy-bytes-requires-2
+copy-bytes-requires-2 c κs = search needs
+
+same-length : tie.Need-same-length
+same-length c = search needs
+
+returns : tie.Need-returns
+returns c =
+    let second = c .before .before in
+    let first = second .before .before .before .before in
+    slot-written _ _ _ _ _ (first .before .before .before .before .before .pre) (first .copy-bytes .ensures) (second .copy-bytes2 .ensures)
+
+pub write-slot-spec : {M : Type 1} → statement M
+write-slot-spec =
+    tie.close
+    (tie.spec
+    sub-copy-bytes
+    part-copy-bytes-start
+    part-copy-bytes-end
+    copy-bytes-requires
+    sub-copy-bytes-2
+    part-copy-bytes-start-2
+    part-copy-bytes-end-2
+    copy-bytes-requires-2
+    same-length
+    returns)

@@ -1,0 +1,21 @@
+-- The claim: engine and plain machine go together through every list of calls.
+pub mod Mirrors
+pub mod Finding
+pub mod States
+pub mod Storing
+pub mod Passages
+pub mod Change
+pub mod Making
+pub mod Sweeping
+pub mod Remaking
+pub mod Agrees
+pub mod Ends
+pub mod Current
+pub mod Simple
+pub mod OneTrack
+pub mod WholeDrive
+pub mod Transfers
+pub mod Restarted
+pub mod Obeyed
+pub mod Called
+pub mod Claimed

@@ -1,0 +1,248 @@
+-- Where an image mirrors the machine, the commands' own checks go as the machine's do.
+use Prim.Native.Nat.{ℕ, zero, suc, _*_, _-_, _<_}
+use mathlib.Core.Path.{_≡_, refl, sym, ap, _∙_}
+use mathlib.Core.Bool.{Bool, true, false, not, _&&_, _||_}
+use mathlib.Core.Logic.{_⊎_, inl, inr}
+use mathlib.Core.Option.{Option, none, some}
+use mathlib.Core.List.{List, [], _∷_, _++_}
+use native.Mathlib.Omega.{arith}
+use native.Mathlib.Decide.{decLt, ℕ-discrete}
+use native.Mathlib.Nat.{eq-or-lt-of-le, le-of-suc-le-suc}
+use lib.Dec.{eqb, ltb, leb}
+use borrow.Author.Tests.{eq-eqb, ne-eqb, lt-ltb, le-ltb}
+use Rattle.base.specs.Pick.{pick}
+use Rattle.base.specs.First.{firstBelow, someBelow}
+use Rattle.base.proofs.Bools.{leb-not}
+use Rattle.base.proofs.Firsts.{first-some, first-none, none-first, some-hit, some-none}
+use Rattle.geometry.specs.declared.params.Lba.{Lba}
+use Rattle.geometry.specs.declared.params.Track.{Track}
+use Rattle.geometry.specs.declared.params.Params.{Params}
+use Rattle.geometry.specs.Params.{Within, trackCount, trackOf, lastAddress}
+use Rattle.geometry.proofs.Sizes.{sectors-some}
+use Rattle.geometry.proofs.Addresses.{track-in, same-track}
+use Rattle.interleave.specs.Layout.{layoutOf}
+use Rattle.track.specs.declared.state.State.{State}
+use Rattle.track.specs.declared.state.State.the-variants.{Sound, Bad, Moved, Taken}
+use Rattle.track.specs.State.{track}
+use Rattle.track.specs.Pair.{stateOf, oneBelow, splits, pairSplit}
+use Rattle.track.specs.State.{isBad as badState, isMoved as movedState, isTaken as takenState}
+use Rattle.formatter.specs.Check.{checkCode}
+use Rattle.formatter.proofs.Formed.{state-formed, check-sound, check-moved, check-bad, check-taken}
+use Rattle.model.specs.declared.verdict.Verdict.{Verdict}
+use Rattle.model.specs.Checks.{Test, on, judged}
+use Rattle.model.specs.Commands.{checkTests, aloneTests, assignTests}
+use Rattle.model.specs.Machine.{Kind, stateless, sound, bad, moved, taken, isBad, isMoved, isTaken, denied, paired, parted, partedBy, someParted, unassignable}
+use Rattle.model.proofs.claim.Mirrors.{stateFor, Mirrors}
+use Rattle.model.proofs.claim.Finding.{sound-formed, bad-formed, moved-formed, taken-formed}
+
+-- ---- pairs that are split
+-- at most is not above
+one-of : (a b : Bool) → ((a && not b) || (not a && b)) ≡ ((a && not b) || (b && not a))
+one-of true true = refl
+one-of true false = refl
+one-of false true = refl
+one-of false false = refl
+
+below-parted : (s t u : Track) → oneBelow s t u ≡ parted (s .0) (t .0) (u .0)
+unfolding oneBelow parted
+below-parted s t u = rw (leb-not (s .0) (u .0), leb-not (s .0) (t .0)) (one-of (ltb (t .0) (s .0)) (ltb (u .0) (s .0)))
+
+split-parted : (s : Track) (t : ℕ) (k : Kind) → splits s (track t) (stateFor k) ≡ partedBy (s .0) t k
+unfolding splits partedBy stateFor
+split-parted s t stateless = refl
+split-parted s t sound = refl
+split-parted s t bad = refl
+split-parted s t (moved u) = below-parted s (track t) u
+split-parted s t (taken u) = below-parted s (track t) u
+
+-- no track is below track 0
+below-zero : (t u : Track) → oneBelow (track 0) t u ≡ false
+unfolding oneBelow
+below-zero t u = rw (le-ltb (t .0) 0 (omega arith), le-ltb (u .0) 0 (omega arith))
+
+splits-zero : (t : Track) (state : State) → splits (track 0) t state ≡ false
+unfolding splits
+splits-zero t Sound = refl
+splits-zero t Bad = refl
+splits-zero t (Moved u) = below-zero t u
+splits-zero t (Taken u) = below-zero t u
+
+-- Format Drive from track 0 on splits no pair, in any image.
+pub split-zero : (p : Params) (image : List ℕ) → pairSplit p (track 0) image ≡ false
+unfolding pairSplit
+split-zero p image = some-none _ _ (none-first _ _ (λ i h. splits-zero (track i) (stateOf p (track i) image)))
+
+-- the machine's test of every track below n, by what it gives for each
+none-parted : (kind : Track → Kind) (s n : ℕ) → ((t : ℕ) → t < n → partedBy s t (kind (track t)) ≡ false) → someParted kind s n ≡ false
+unfolding someParted
+none-parted kind s zero h = refl
+none-parted kind s (suc n) h = rw (h n (omega arith), none-parted kind s n (λ t l. h t (omega arith)))
+
+or-true : (b : Bool) → (b || true) ≡ true
+or-true true = refl
+or-true false = refl
+
+some-parted : (kind : Track → Kind) (s n t : ℕ) → t < n → partedBy s t (kind (track t)) ≡ true → someParted kind s n ≡ true
+unfolding someParted
+some-parted kind s zero t h e = absurd (omega arith)
+some-parted kind s (suc n) t h e = by (eq-or-lt-of-le (le-of-suc-le-suc h)) (λ l. some-parted kind s n t l e)
+  where
+    by : (t ≡ n) ⊎ (t < n) → (t < n → someParted kind s n ≡ true) → (partedBy s n (kind (track n)) || someParted kind s n) ≡ true
+    by (inl z) ih = rw (ap (λ (i : ℕ). partedBy s i (kind (track i))) (sym z) ∙ e)
+    by (inr l) ih = rw (ih l) (or-true (partedBy s n (kind (track n))))
+
+parted-below-zero : (t : ℕ) (k : Kind) → partedBy 0 t k ≡ false
+parted-below-zero t k = sym (split-parted (track 0) t k) ∙ splits-zero (track t) (stateFor k)
+
+pub parted-zero : (kind : Track → Kind) (n : ℕ) → someParted kind 0 n ≡ false
+parted-zero kind n = none-parted kind 0 n (λ t h. parted-below-zero t (kind (track t)))
+
+-- ---- states and kinds give the same tests
+bad-kind : (k : Kind) → badState (stateFor k) ≡ isBad k
+unfolding badState stateFor isBad
+bad-kind stateless = refl
+bad-kind sound = refl
+bad-kind bad = refl
+bad-kind (moved u) = refl
+bad-kind (taken u) = refl
+
+moved-kind : (k : Kind) → movedState (stateFor k) ≡ isMoved k
+unfolding movedState stateFor isMoved
+moved-kind stateless = refl
+moved-kind sound = refl
+moved-kind bad = refl
+moved-kind (moved u) = refl
+moved-kind (taken u) = refl
+
+taken-kind : (k : Kind) → takenState (stateFor k) ≡ isTaken k
+unfolding takenState stateFor isTaken
+taken-kind stateless = refl
+taken-kind sound = refl
+taken-kind bad = refl
+taken-kind (moved u) = refl
+taken-kind (taken u) = refl
+
+eqb-turned : (a b : ℕ) → eqb a b ≡ eqb b a
+eqb-turned a b = by (ℕ-discrete a b)
+  where
+    by : Dec (a ≡ b) → eqb a b ≡ eqb b a
+    by (yes e) = eq-eqb a b e ∙ sym (eq-eqb b a (sym e))
+    by (no ne) = ne-eqb a b ne ∙ sym (ne-eqb b a (λ e. ne (sym e)))
+
+-- an alternate past the last address settles it, whatever the state of its track
+assign-past : (p : Params) (first : ℕ) (a b : Lba) (stateA stateB stateC : State) (after : Verdict) → ltb (lastAddress p .0) (b .0) ≡ true
+    → judged (assignTests p first a b stateA stateB) after ≡ judged (assignTests p first a b stateA stateC) after
+unfolding judged assignTests pick
+assign-past p first a b stateA stateB stateC after e = rw e
+
+-- ---- Check Track's code, by the track's kind
+module _ (a : Lba) (after : Verdict) where
+  code-slots : (same : Bool) → judged (checkTests (pick same 0 0x1A) a) after ≡ judged (on (not same) 0x1A a ∷ []) after
+  unfolding judged checkTests pick
+  code-slots true = refl
+  code-slots false = refl
+
+  code-sound : (same : Bool) → judged (checkTests (pick same 0 0x1A) a) after ≡ judged (denied sound a ++ (on (not same) 0x1A a ∷ [])) after
+  unfolding judged denied isBad isTaken pick
+  code-sound same = code-slots same
+
+  code-moved : (u : Track) (same : Bool)
+      → judged (checkTests (pick same 0 0x1A) a) after ≡ judged (denied (moved u) a ++ (on (not same) 0x1A a ∷ [])) after
+  unfolding judged denied isBad isTaken pick
+  code-moved u same = code-slots same
+
+  code-bad : (rest : List Test) → judged (checkTests 0x19 a) after ≡ judged (denied bad a ++ rest) after
+  unfolding judged checkTests denied isBad isTaken pick
+  code-bad rest = refl
+
+  code-taken : (u : Track) (rest : List Test) → judged (checkTests 0x1C a) after ≡ judged (denied (taken u) a ++ rest) after
+  unfolding judged checkTests denied isBad isTaken pick
+  code-taken u rest = refl
+
+module _ (p : Params) (w : Within p) (kind : Track → Kind) (inter : Track → ℕ) (held : Lba → List ℕ) (image : List ℕ)
+    (mirror : Mirrors p kind inter held image) where
+  pub state-mirrored : (t : Track) → t .0 < trackCount p → stateOf p t image ≡ stateFor (kind t)
+  state-mirrored t h = state-formed p t (stateFor (kind t)) (inter t) image (omega (arith, w .sectors-some)) (mirror .formed t h)
+
+  test-mirrored : (s : Track) (t : ℕ) → t < trackCount p → splits s (track t) (stateOf p (track t) image) ≡ partedBy (s .0) t (kind (track t))
+  test-mirrored s t h = ap (splits s (track t)) (state-mirrored (track t) h) ∙ split-parted s t (kind (track t))
+
+  pub split-mirrored : (s : Track) → pairSplit p s image ≡ someParted kind (s .0) (trackCount p)
+  unfolding pairSplit
+  split-mirrored s = by (firstBelow test (trackCount p)) refl
+    where
+      test : ℕ → Bool
+      test t = splits s (track t) (stateOf p (track t) image)
+
+      by : (o : Option ℕ) → firstBelow test (trackCount p) ≡ o → someBelow test (trackCount p) ≡ someParted kind (s .0) (trackCount p)
+      by none e =
+          some-none test (trackCount p) e
+          ∙ sym (none-parted kind (s .0) (trackCount p) (λ t h. sym (test-mirrored s t h) ∙ first-none test (trackCount p) e t h))
+      by (some t) e =
+          let r = first-some test (trackCount p) t e in
+          some-hit test (trackCount p) t e ∙ sym (some-parted kind (s .0) (trackCount p) t (r .0) (sym (test-mirrored s t (r .0)) ∙ r .1))
+
+  pub alone-mirrored : (t : Track) (a : Lba) → t .0 < trackCount p → aloneTests (stateOf p t image) a ≡ paired (kind t) a
+  unfolding aloneTests paired
+  alone-mirrored t a h = rw (state-mirrored t h, moved-kind (kind t), taken-kind (kind t))
+
+  -- a moved track is not its own partner
+  moved-away : (t u : Track) → t .0 < trackCount p → kind t ≡ moved u → u .0 ≡ t .0 → ⊥
+  moved-away t u h e z =
+      let turned : moved u ≡ taken t = sym e ∙ ap kind (same-track t u (sym z)) ∙ mirror .moves t u h e .returned in
+      let no : _≡_ {A = ℕ} 0 1 = cc in omega arith
+
+  module _ (t : Track) (a : Lba) (f : ℕ) (after : Verdict) (h : t .0 < trackCount p) (hf : (0 < f) × (f < p .sectors)) where
+    check-kind : (k : Kind) → kind t ≡ k
+        → judged (checkTests (checkCode p t (layoutOf (p .sectors) f) image) a) after
+        ≡ judged (denied k a ++ (on (not (eqb f (inter t))) 0x1A a ∷ [])) after
+    check-kind stateless e = absurd (mirror .stated t h e)
+    check-kind sound e =
+        rw (check-sound p t f (inter t) image hf (mirror .inters t h) (sound-formed p kind inter held image mirror t h e))
+        (code-sound a after (eqb f (inter t)))
+    check-kind bad e =
+        rw (check-bad p t f (inter t) image hf (mirror .inters t h) (bad-formed p kind inter held image mirror t h e)) (code-bad a after _)
+    check-kind (moved u) e =
+        let pair = mirror .moves t u h e in
+        rw (
+          check-moved p t f (inter u) image hf (mirror .inters u (pair .ours)) u (inter t) (pair .ours) (moved-away t u h e)
+              (moved-formed p kind inter held image mirror t h u e) (taken-formed p kind inter held image mirror u (pair .ours) t (pair .returned)),
+          pair .inters,
+        )
+        (code-moved a after u (eqb f (inter t)))
+    check-kind (taken u) e =
+        rw (check-taken p t f (inter t) image hf (mirror .inters t h) u (taken-formed p kind inter held image mirror t h u e)) (code-taken a after u _)
+
+  pub check-mirrored : (t : Track) (a : Lba) (f : ℕ) (after : Verdict) → t .0 < trackCount p → (0 < f) × (f < p .sectors)
+      → judged (checkTests (checkCode p t (layoutOf (p .sectors) f) image) a) after
+      ≡ judged (denied (kind t) a ++ (on (not (eqb f (inter t))) 0x1A a ∷ [])) after
+  check-mirrored t a f after h hf = check-kind t a f after h hf (kind t) refl
+
+  -- an address past the last one is at or past their number
+  past-last : (b : ℕ) → ltb (lastAddress p .0) b ≡ leb (trackCount p * p .sectors) b
+  past-last b =
+      let e : suc (trackCount p * p .sectors - 1) ≡ trackCount p * p .sectors = omega (arith, sectors-some p w) in
+      ap (λ (n : ℕ). leb n b) e
+
+  assign-kinds : (first : ℕ) (a b : Lba)
+      → assignTests p first a b (stateFor (kind (trackOf p a))) (stateFor (kind (trackOf p b))) ≡ unassignable kind p first a b
+  unfolding assignTests unassignable
+  assign-kinds first a b =
+      let A = kind (trackOf p a) in
+      let B = kind (trackOf p b) in
+      rw (past-last (b .0), moved-kind A, taken-kind A, eqb-turned (trackOf p b .0) (trackOf p a .0), taken-kind B, moved-kind B, bad-kind B)
+
+  pub assign-mirrored : (first : ℕ) (a b : Lba) (after : Verdict) → trackOf p a .0 < trackCount p
+      → judged (assignTests p first a b (stateOf p (trackOf p a) image) (stateOf p (trackOf p b) image)) after ≡ judged (unassignable kind p first a b) after
+  assign-mirrored first a b after h = rw (state-mirrored (trackOf p a) h, ← assign-kinds first a b) (by (decLt (b .0) (trackCount p * p .sectors)))
+    where
+      A : State
+      A = stateFor (kind (trackOf p a))
+
+      B : State
+      B = stateFor (kind (trackOf p b))
+
+      by : Dec (b .0 < trackCount p * p .sectors)
+          → judged (assignTests p first a b A (stateOf p (trackOf p b) image)) after ≡ judged (assignTests p first a b A B) after
+      by (yes l) = rw (state-mirrored (trackOf p b) (track-in p w b l))
+      by (no l) = assign-past p first a b A _ B after (lt-ltb (lastAddress p .0) (b .0) (omega (arith, sectors-some p w)))

@@ -1,0 +1,6 @@
+-- What follows for readers: of the definitions, and of the claim.
+pub mod PendingDrives
+pub mod PendingCalls
+pub mod HeldSectors
+pub mod MachineTransfers
+pub mod Corollaries

@@ -1,0 +1,4 @@
+pub mod Lasts
+pub mod Finishes
+pub mod ReadEnds
+pub mod WriteEnds

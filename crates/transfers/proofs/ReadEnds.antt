@@ -1,0 +1,54 @@
+-- What Read leaves.
+use mathlib.Core.Path.{_≡_, refl, sym, ap, _∙_}
+use mathlib.Core.List.{List}
+use Prim.Native.Nat.{ℕ, _+_, _*_, _≤_, _<_}
+use native.Mathlib.Omega.{arith}
+use native.Mathlib.Nat.{mul-le-mul}
+use lib.ListN.{length}
+use Rattle.base.specs.Part.{splice}
+use Rattle.geometry.specs.declared.params.Params.{Params}
+use Rattle.geometry.specs.Params.{trackCount}
+use Rattle.track.specs.Image.{Fits}
+use Rattle.sectors.specs.Transfer.{begun, reading}
+use Rattle.sectors.specs.declared.transfer.Done.{Done}
+use Rattle.sectors.specs.Promises.{HasRead}
+use Rattle.sectors.proofs.Readings.{Handed, reading-handed}
+use Rattle.model.specs.declared.block.Block.{Block}
+use Rattle.model.specs.declared.record.Drive.{Drive}
+use Rattle.model.specs.Block.{countOf}
+use Rattle.model.specs.Record.{Effect}
+use Rattle.model.specs.Commands.{read}
+use Rattle.endings.specs.declared.record.Ending.{Ending}
+use Rattle.endings.specs.Leaves.{recordOf, leftWith, Leaves, leftBy, leftNow}
+use Rattle.transfers.specs.Finish.{lastOf, finishOf}
+use Rattle.transfers.proofs.Lasts.{last-front, last-is}
+use Rattle.transfers.proofs.Finishes.{outcome-is}
+
+pub bytes-most : (k size : ℕ) → k ≤ 256 → size ≤ 512 → k * size ≤ 131072
+bytes-most k size h l = mul-le-mul {n₂ = 256} {m₂ = 512} h l
+
+-- ---- 08 Read
+module _ (b : Block) (p : Params) (area₀ area image : List ℕ) (n : ℕ) (done : Done) (fits : Fits p image)
+    (h : b .address .0 + countOf b ≤ trackCount p * p .sectors) (en : n ≡ countOf b) (m : HasRead p n (b .address .0) image done area₀ area) where
+  has-read : Handed p n image (reading p n (b .address .0) (begun image))
+  has-read = reading-handed p image fits n (b .address .0) (omega arith)
+
+  pub read-most : done .sectors ≤ n
+  read-most = rw (m .sectors) (has-read .most)
+
+  pub read-code : done .code < 0x80
+  read-code = rw (m .code) (has-read .code)
+
+  pub read-leaves : (drives : List Drive) (buffer₀ buffer : List ℕ) (e : Ending) → buffer ≡ splice 0 (lastOf (done .sectors) (p .size) area) buffer₀
+      → Leaves e drives (finishOf b (done .sectors) (done .code) (done .sectors * p .size))
+      → leftNow (leftWith buffer e) area image ≡ leftBy (read b p (recordOf buffer₀ drives) image) area₀
+  unfolding read leftBy
+  read-leaves drives buffer₀ buffer e eb leaves =
+      let x = reading p n (b .address .0) (begun image) in
+      let long : done .sectors * p .size ≡ length (x .handed) = rw (m .sectors) (sym (has-read .long)) in
+      let last : lastOf (done .sectors) (p .size) area ≡ x .last =
+      rw (m .sectors, m .area) (last-front (x .done) (p .size) (x .handed) area₀ (omega (arith, has-read .long)) ∙ sym (last-is _ _ _ _ (has-read .last-none) (has-read .last))) in
+      let is = outcome-is b drives x _ _ _ _ buffer₀ buffer e eb leaves (m .sectors) (m .code) long last in
+      let moved : leftNow (leftWith buffer e) area image ≡ leftNow (leftWith buffer e) (splice 0 (x .handed) area₀) (x .image) =
+      rw (m .area, has-read .same) refl in
+      rw (← en) (moved ∙ ap (λ (y : Effect). leftBy y area₀) is)

@@ -1,0 +1,81 @@
+-- What Write leaves.
+use mathlib.Core.Path.{_≡_, refl, sym, ap, _∙_}
+use mathlib.Core.List.{List, []}
+use Prim.Native.Nat.{ℕ, zero, suc, _*_, _<_}
+use native.Mathlib.Omega.{arith}
+use native.Mathlib.Nat.{zero-mul, suc-mul}
+use lib.ListN.{length, take, drop}
+use lib.Seq.{drop-drop}
+use Rattle.base.specs.Part.{part, splice}
+use Rattle.geometry.specs.declared.params.Params.{Params}
+use Rattle.geometry.specs.declared.params.Track.{Track}
+use Rattle.sectors.specs.Transfer.{Transfer, begun, ended, writeSlot, found, writing}
+use Rattle.sectors.specs.declared.transfer.Done.{Done}
+use Rattle.sectors.specs.Promises.{HasWritten}
+use Rattle.sectors.proofs.Founds.{Code, found-fault}
+use Rattle.sectors.proofs.Onwards.{onward-has}
+use Rattle.model.specs.declared.block.Block.{Block}
+use Rattle.model.specs.declared.record.Drive.{Drive}
+use Rattle.model.specs.Block.{countOf}
+use Rattle.model.specs.Commands.{transferred, write}
+use Rattle.endings.specs.declared.record.Ending.{Ending}
+use Rattle.endings.specs.Leaves.{recordOf, leftWith, silent, Leaves}
+use Rattle.transfers.specs.Finish.{lastOf, finishOf}
+use Rattle.transfers.proofs.Finishes.{outcome-is}
+
+-- ---- nothing is handed over, and each sector is the next D bytes given
+record Taken (p : Params) (given : List ℕ) (x : Transfer) : Type 0 where
+  pub code : x .code < 0x80
+  pub none : x .handed ≡ []
+  pub last : x .last ≡ lastOf (x .done) (p .size) given
+
+module _ (p : Params) (given : List ℕ) where
+  taken-none : (image : List ℕ) → Taken p given (begun image)
+  unfolding begun lastOf
+  taken-none image = record { code = omega arith; none = refl; last = refl }
+
+  module _ (x : Transfer) (w : Taken p given x) where
+    taken-ended : (code : ℕ) → Code code → Taken p given (ended code x)
+    unfolding ended
+    taken-ended code h = record { code = h .1; none = w .none; last = w .last }
+
+    taken-slot : (u : Track) (k : ℕ) (rest : List ℕ) → rest ≡ drop (x .done * p .size) given → Taken p given (writeSlot p (take (p .size) rest) x u k)
+    unfolding writeSlot lastOf part
+    taken-slot u k rest e = record { code = omega arith; none = w .none; last = ap (take (p .size)) e }
+
+  taken-on : (m a : ℕ) (rest : List ℕ) (x : Transfer) → Taken p given x → rest ≡ drop (x .done * p .size) given
+      → Taken p given (writing p m a rest x)
+  unfolding writing writeSlot
+  taken-on zero a rest x w er = w
+  taken-on (suc m) a rest x w er =
+      onward-has (Taken p given) x _ (found p a (x .image))
+      (λ code e. taken-ended x w code (found-fault p a (x .image) code e))
+      (λ u k e.
+      let past : drop (p .size) rest ≡ drop (suc (x .done) * p .size) given =
+      ap (drop (p .size)) er ∙ drop-drop (p .size) (x .done * p .size) given ∙ rw suc-mul refl in
+      taken-on m (suc a) (drop (p .size) rest) _ (taken-slot x w u k rest er) past)
+
+module _ (p : Params) (n a : ℕ) (given image₀ image : List ℕ) (done : Done) (w : HasWritten p n a given done image₀ image) where
+  has-taken : Taken p given (writing p n a given (begun image₀))
+  unfolding begun
+  has-taken = taken-on p given n a given (begun image₀) (taken-none p given image₀) (rw zero-mul refl)
+
+  pub write-code : done .code < 0x80
+  write-code = rw (w .code) (has-taken .code)
+
+-- ---- 0Ah Write
+module _ (b : Block) (p : Params) (drives : List Drive) (given image₀ image before after : List ℕ) (n : ℕ) (done : Done) (r : Ending) where
+  pub write-leaves : n ≡ countOf b → HasWritten p n (b .address .0) given done image₀ image
+      → after ≡ splice 0 (lastOf (done .sectors) (p .size) given) before → Leaves r drives (finishOf b (done .sectors) (done .code) 0)
+      → silent (leftWith after r) image ≡ write b p given (recordOf before drives) image₀
+  unfolding write
+  write-leaves en w ea er =
+      let x = writing p n (b .address .0) given (begun image₀) in
+      let h = has-taken p n (b .address .0) given image₀ image done w in
+      let none : 0 ≡ length (x .handed) = sym (ap length (h .none)) in
+      let last : lastOf (done .sectors) (p .size) given ≡ x .last = rw (w .sectors) (sym (h .last)) in
+      let is : record { outcome = leftWith after r; handed = x .handed; image = x .image } ≡ transferred b (recordOf before drives) x =
+      outcome-is b drives x _ _ _ _ before after r ea er (w .sectors) (w .code) none last in
+      let moved : silent (leftWith after r) image ≡ record { outcome = leftWith after r; handed = x .handed; image = x .image } =
+      rw (w .image, h .none) refl in
+      rw (← en) (moved ∙ is)

@@ -1,0 +1,4 @@
+// Read and Write.
+pub mod read;
+pub mod transfer;
+pub mod write;
