@@ -21,16 +21,16 @@ use Rattle.track.specs.declared.state.State.the-variants.{Moved, Taken}
 use Rattle.track.specs.Pair.{stateOf}
 use Rattle.track.specs.State.{isBad, isMoved, isTaken}
 use Rattle.model.specs.declared.block.Block.{Block}
-use Rattle.model.specs.declared.record.Controller.{Controller}
-use Rattle.model.specs.declared.record.Outcome.{Outcome}
+use Rattle.model.specs.declared.record.Drive.{Drive}
+use Rattle.model.specs.declared.record.Ending.{Ending}
 use Rattle.model.specs.declared.verdict.Verdict.{Verdict}
 use Rattle.model.specs.declared.verdict.Verdict.the-variants.{Refused, Faulty, Passed}
 use Rattle.model.specs.Block.{alternateOf}
 use Rattle.model.specs.Checks.{on, judged}
-use Rattle.model.specs.Record.{bareOutcome, failedOutcome, goodOutcome}
+use Rattle.model.specs.Record.{refused, failed, good, made}
 use Rattle.model.specs.Commands.{fillOf, plainFill, madeAt, assignTests, assigned, assignAlternate}
-use Rattle.model.proofs.engine.Judged.{judged-hit, judged-on, passed-on, fault-in, fault-none, passed-faulty}
-use Rattle.endings.specs.Leaves.{silent}
+use Rattle.model.specs.Premises.{addressLimit}
+use Rattle.model.proofs.engine.Judged.{judged-hit, judged-on, passed-on, fault-in, fault-none}
 use Rattle.endings.proofs.Verdicts.{ends-refused, ends-faulty, ends-well}
 use Rattle.formats.proofs.Makings.{fill-lent}
 
@@ -44,27 +44,26 @@ alternate-in p w alternate last el h =
 -- what its own checks say of an image
 abbrev pub verdictOn : Params → (first : ℕ) → (a alternate : Lba) → List ℕ → Verdict
 verdictOn p first a alternate image =
-    judged (assignTests p first a alternate (stateOf p (trackOf p a) image) (stateOf p (trackOf p alternate) image)) Passed
+    judged (assignTests p first a alternate (stateOf p (trackOf p a) image) (stateOf p (trackOf p alternate) image))
 
 -- ---- the tests, one by one
 module _ (p : Params) (first : ℕ) (a alternate : Lba) (stateA stateB : State) where
-  pub first-past : 0x1F < first → Faulty 0x22 a ≡ judged (assignTests p first a alternate stateA stateB) Passed
+  pub first-past : 0x1F < first → Faulty 0x22 a ≡ judged (assignTests p first a alternate stateA stateB)
   unfolding assignTests
-  first-past h = sym (judged-hit _ _ _ _ _ (lt-ltb _ _ h))
+  first-past h = sym (judged-hit _ _ _ (lt-ltb _ _ h))
 
   module _ (h : first ≤ 0x1F) (last : Lba) (el : last ≡ lastAddress p) where
-    pub alternate-past : last .0 < alternate .0 → Faulty 0x21 alternate ≡ judged (assignTests p first a alternate stateA stateB) Passed
+    pub alternate-past : last .0 < alternate .0 → Faulty 0x21 alternate ≡ judged (assignTests p first a alternate stateA stateB)
     unfolding assignTests
-    alternate-past k = sym (judged-on _ _ _ _ _ (le-ltb _ _ h) ∙ judged-hit _ _ _ _ _ (lt-ltb _ _ (rw el at k)))
+    alternate-past k = sym (judged-on _ _ _ (le-ltb _ _ h) ∙ judged-hit _ _ _ (lt-ltb _ _ (rw el at k)))
 
     pair-rest : alternate .0 ≤ last .0
         → judged
         (on (isMoved stateA) 0x1D a ∷ on (isTaken stateA) 0x1C a ∷ on (eqb (trackOf p alternate .0) (trackOf p a .0)) 0x22 a
         ∷ on (isTaken stateB) 0x1D alternate ∷ on (isMoved stateB || isBad stateB) 0x1F alternate ∷ [])
-        Passed
-        ≡ judged (assignTests p first a alternate stateA stateB) Passed
+        ≡ judged (assignTests p first a alternate stateA stateB)
     unfolding assignTests
-    pair-rest k = sym (judged-on _ _ _ _ _ (le-ltb _ _ h) ∙ judged-on _ _ _ _ _ (le-ltb _ _ (rw el at k)))
+    pair-rest k = sym (judged-on _ _ _ (le-ltb _ _ h) ∙ judged-on _ _ _ (le-ltb _ _ (rw el at k)))
 
 -- the tests of the pair, as calls make them
 module _ (p : Params) (first : ℕ) (a alternate : Lba) (image : List ℕ) (h : first ≤ 0x1F)
@@ -75,7 +74,6 @@ module _ (p : Params) (first : ℕ) (a alternate : Lba) (image : List ℕ) (h : 
       → verdict
       ≡ judged
       (on moved 0x1D a ∷ on taken 0x1C a ∷ on (eqb (to .0) (from .0)) 0x22 a ∷ on away 0x1D alternate ∷ on unfit 0x1F alternate ∷ [])
-      Passed
       → verdict ≡ verdictOn p first a alternate image
   pair-judged moved taken away gone bad unfit verdict em en ea eg ed eu ev =
       ev ∙ rw (em, en, ea, eu, eg, ed, eo, eb, ef, et) (pair-rest p first a alternate _ _ h last el k)
@@ -86,7 +84,7 @@ module _ (p : Params) (first : ℕ) (a alternate : Lba) (image : List ℕ) (verd
   pub passed-in : Within p → verdict ≡ Passed → trackOf p alternate .0 < trackCount p
   unfolding assignTests
   passed-in w e =
-      alternate-in p w alternate _ refl (ltb-false _ _ (passed-on _ _ _ _ Passed (passed-on _ _ _ _ Passed (sym ev ∙ e) .1) .0))
+      alternate-in p w alternate _ refl (ltb-false _ _ (passed-on _ _ _ _ (passed-on _ _ _ _ (sym ev ∙ e) .1) .0))
 
   -- a fault gives the block's address, or the alternate's, which is looked at only where the first byte is at most 1Fh
   pub fault-below : (m : ℕ) → a .0 < m → (first ≤ 0x1F → alternate .0 < m) → (code : ℕ) (at : Lba) → verdict ≡ Faulty code at
@@ -94,21 +92,21 @@ module _ (p : Params) (first : ℕ) (a alternate : Lba) (image : List ℕ) (verd
   unfolding assignTests
   fault-below m ha hb code at e =
       let P : ℕ → Lba → Type 0 = λ k l. (k < 0x80) × (l .0 < m) in
-      fault-in P code at Passed _ _ _ _ (omega arith, ha)
+      fault-in P code at _ _ _ _ (omega arith, ha)
       (λ z.
       let h = hb (ltb-false _ _ z) in
-      fault-in P code at Passed _ _ _ _ (omega arith, h)
-      (λ _. fault-in P code at Passed _ _ _ _ (omega arith, ha)
-      (λ _. fault-in P code at Passed _ _ _ _ (omega arith, ha)
-      (λ _. fault-in P code at Passed _ _ _ _ (omega arith, ha)
-      (λ _. fault-in P code at Passed _ _ _ _ (omega arith, h)
-      (λ _. fault-in P code at Passed _ _ _ _ (omega arith, h)
-      (λ _. fault-none P code at Passed (λ z. absurd (passed-faulty code at z)))))))))
+      fault-in P code at _ _ _ _ (omega arith, h)
+      (λ _. fault-in P code at _ _ _ _ (omega arith, ha)
+      (λ _. fault-in P code at _ _ _ _ (omega arith, ha)
+      (λ _. fault-in P code at _ _ _ _ (omega arith, ha)
+      (λ _. fault-in P code at _ _ _ _ (omega arith, h)
+      (λ _. fault-in P code at _ _ _ _ (omega arith, h)
+      (λ _. fault-none P code at)))))))
       (sym ev ∙ e)
 
 -- three bytes, of which the first is at most 1Fh, make an address of 21 bits
 pub alternate-below : (given : List ℕ) (alternate : Lba) → alternate ≡ alternateOf given → byte given 1 < 256 → byte given 2 < 256
-    → byte given 0 ≤ 0x1F → alternate .0 < 2097152
+    → byte given 0 ≤ 0x1F → alternate .0 < addressLimit
 unfolding alternateOf
 alternate-below given alternate e h₁ h₂ h₀ = rw e (omega arith)
 
@@ -119,26 +117,25 @@ pub pair-made : (b : Block) (p : Params) (from to : Track) (plain fill image one
 unfolding assigned
 pair-made b p from to plain fill image one left ep eo el = rw (← ep, ← fill-lent (p .size) plain, ← eo) el
 
-module _ (b : Block) (p : Params) (given : List ℕ) (c : Controller) (image : List ℕ) (outcome : Outcome)
+module _ (b : Block) (p : Params) (buffer given : List ℕ) (entry : Drive) (image : List ℕ) (r : Ending)
     (alternate : Lba) (ea : alternate ≡ alternateOf given) (verdict : Verdict)
     (ev : verdict ≡ verdictOn p (byte given 0) (b .address) alternate image) where
   is-verdict : verdictOn p (byte given 0) (b .address) (alternateOf given) image ≡ verdict
   is-verdict = sym (ev ∙ rw ea)
 
-  pub assign-refused : (number : ℕ) → verdict ≡ Refused number → outcome ≡ bareOutcome number c
-      → silent outcome image ≡ assignAlternate b p given c image
+  pub assign-refused : (number : ℕ) → verdict ≡ Refused number → r ≡ refused number entry
+      → made r image ≡ assignAlternate b p buffer given entry image
   unfolding assignAlternate
-  assign-refused number e eo = ends-refused b c image _ outcome _ number (is-verdict ∙ e) eo
+  assign-refused number e er = ends-refused _ entry image _ r _ number (is-verdict ∙ e) er
 
-  pub assign-fails : (code : ℕ) (at : Lba) → verdict ≡ Faulty code at → outcome ≡ failedOutcome (b .drive) code at 0 0 c
-      → silent outcome image ≡ assignAlternate b p given c image
+  pub assign-fails : (code : ℕ) (at : Lba) → verdict ≡ Faulty code at → r ≡ failed (b .drive) (b .drive) code at 0 0 entry
+      → made r image ≡ assignAlternate b p buffer given entry image
   unfolding assignAlternate
-  assign-fails code at e eo = ends-faulty b c image _ outcome _ code at (is-verdict ∙ e) eo
+  assign-fails code at e er = ends-faulty _ entry image _ r _ code at (is-verdict ∙ e) er
 
   pub assign-well : (from to : Track) (fill left : List ℕ) → verdict ≡ Passed → from ≡ trackOf p (b .address) → to ≡ trackOf p alternate
-      → part 0 (p .size) fill ≡ fillOf b p (c .buffer)
-      → left ≡ assigned b p from to (take (p .size - 0) fill) image → outcome ≡ goodOutcome (b .drive) 0 0 c
-      → silent outcome left ≡ assignAlternate b p given c image
+      → part 0 (p .size) fill ≡ fillOf b p buffer → left ≡ assigned b p from to (take (p .size - 0) fill) image
+      → r ≡ good (b .drive) 0 0 entry → made r left ≡ assignAlternate b p buffer given entry image
   unfolding assignAlternate
-  assign-well from to fill left e ef et ep el eo =
-      ends-well b c image _ outcome c _ left (is-verdict ∙ e) eo (el ∙ rw (ef, et, ea, fill-lent (p .size) fill ∙ ep))
+  assign-well from to fill left e ef et ep el er =
+      ends-well _ entry image _ r _ left (is-verdict ∙ e) (rw (er, el, ef, et, ea, fill-lent (p .size) fill ∙ ep))

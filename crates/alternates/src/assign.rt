@@ -1,10 +1,9 @@
 // Assign Alternate.
 use base::logic::either;
 use checks::block::alternate_of;
-use endings::record::Ending;
-use endings::record::failed;
-use endings::record::good;
-use endings::record::refused;
+use endings::ending::failed;
+use endings::ending::good;
+use endings::ending::refused;
 use formats::making::fill_of;
 use formats::making::make_at;
 use formats::making::plain_fill;
@@ -14,6 +13,7 @@ use geometry::params::Params;
 use geometry::params::Track;
 use model::block::Block;
 use model::record::Drive;
+use model::record::Ending;
 use model::verdict::Verdict;
 use track::pair::state_of;
 use track::state::State;
@@ -27,10 +27,10 @@ ghost use lib.ListN.{length};
 ghost use Rattle.geometry.specs.Params.{trackCount, trackOf};
 ghost use Rattle.track.specs.Image.{Fits};
 ghost use Rattle.track.specs.Pair.{stateOf};
-ghost use Rattle.model.specs.declared.verdict.Verdict.the-variants.{Passed};
 ghost use Rattle.model.specs.Checks.{on, judged};
+ghost use Rattle.model.specs.Record.{made};
 ghost use Rattle.model.specs.Commands.{assignTests, assigned, assignAlternate};
-ghost use Rattle.endings.specs.Leaves.{recordOf, leftWith, silent};
+ghost use Rattle.model.specs.Premises.{OnTrack};
 
 // The faults of a pair of tracks, in document 01's order.
 fn pair_faults(
@@ -42,7 +42,7 @@ fn pair_faults(
     away: bool,
     unfit: bool,
 ) -> Verdict
-    ensures { λ r. ⌜ r ≡ judged (on moved 0x1D a ∷ on taken 0x1C a ∷ on same 0x22 a ∷ on away 0x1D alternate ∷ on unfit 0x1F alternate ∷ []) Passed ⌝ }
+    ensures { λ r. ⌜ r ≡ judged (on moved 0x1D a ∷ on taken 0x1C a ∷ on same 0x22 a ∷ on away 0x1D alternate ∷ on unfit 0x1F alternate ∷ []) ⌝ }
 {
     if moved {
         return Verdict::Faulty(0x1D, a);
@@ -65,7 +65,8 @@ fn pair_faults(
 // Assign Alternate's own checks.
 fn assign_faults(image: &[u8], p: Params, first: u8, a: Lba, alternate: Lba) -> Verdict
     requires { ⌜ Fits p (now image) × (trackOf p a .0 < trackCount p) ⌝ }
-    ensures { λ r. ⌜ r ≡ judged (assignTests p first a alternate (stateOf p (trackOf p a) (now (image .entry))) (stateOf p (trackOf p alternate) (now (image .entry)))) Passed ⌝ }
+    ensures { λ r. ⌜ r ≡ judged (assignTests p first a alternate
+        (stateOf p (trackOf p a) (now (image .entry))) (stateOf p (trackOf p alternate) (now (image .entry)))) ⌝ }
 {
     if 0x1F < first {
         return Verdict::Faulty(0x22, a);
@@ -101,23 +102,23 @@ fn make_pair(image: &mut [u8], b: Block, p: Params, from: Track, to: Track, fill
 }
 
 pub fn assign_alternate(
-    drives: [Drive; 4],
+    entry: Drive,
     b: Block,
     p: Params,
     buffer: &[u8],
     given: &[u8],
     image: &mut [u8],
 ) -> Ending
-    requires { ⌜ Fits p (now image) × (b .drive < 4) × (b .address .0 < 2097152) × (trackOf p (b .address) .0 < trackCount p) × (b .extra < p .sectors) × (3 ≤ length (now given)) × (length (now buffer) ≡ 512) ⌝ }
-    ensures { λ r. ⌜ silent (leftWith (now (buffer .entry)) r) (now (image .exit)) ≡ assignAlternate b p (now (given .entry)) (recordOf (now (buffer .entry)) drives) (now (image .entry)) ⌝ }
+    requires { ⌜ OnTrack b p (now image) × (3 ≤ length (now given)) × (length (now buffer) ≡ 512) ⌝ }
+    ensures { λ r. ⌜ made r (now (image .exit)) ≡ assignAlternate b p (now (buffer .entry)) (now (given .entry)) entry (now (image .entry)) ⌝ }
 {
     let drive = b.drive;
     let at = b.address;
     let alternate = alternate_of(given);
     let verdict = assign_faults(image, p, given[0], at, alternate);
     match verdict {
-        Verdict::Refused(number) => refused(drives, number),
-        Verdict::Faulty(code, place) => failed(drives, drive, code, place, 0, 0),
+        Verdict::Refused(number) => refused(entry, number),
+        Verdict::Faulty(code, place) => failed(entry, drive, drive, code, place, 0, 0),
         Verdict::Passed => {
             let size = p.size;
             let fill = fill_of(b, p, buffer);
@@ -129,7 +130,7 @@ pub fn assign_alternate(
                 p.track_of(alternate),
                 &fill[0..size],
             );
-            good(drives, drive, 0, 0)
+            good(entry, drive, 0, 0)
         }
     }
 }

@@ -1,7 +1,6 @@
--- Laws of the checks: control bits, bounds on counts and lengths, and the order with the three that need parameters as tests.
-use mathlib.Core.Path.{_≡_, refl, _∙_}
+-- Laws of the checks: control bits, bounds on counts and lengths, what the code's calls come to.
+use mathlib.Core.Path.{_≡_, refl}
 use mathlib.Core.Bool.{Bool, true, not, _&&_, _||_, and-true, and-false}
-use mathlib.Core.List.{[], _∷_}
 use Prim.Native.Nat.{ℕ, _*_, _%_, _≤_, _<_}
 use native.Mathlib.Nat.{mul-le-mul}
 use native.Mathlib.Omega.{arith}
@@ -10,27 +9,28 @@ use lib.Dec.{eqb, ltb}
 use borrow.Author.Tests.{eq-eqb, ne-eqb}
 use Rattle.base.specs.Pick.{pick}
 use Rattle.base.proofs.Decide.{pick-true, pick-false}
-use Rattle.geometry.specs.declared.medium.Medium.{Medium}
+use Rattle.geometry.specs.declared.params.Lba.{Lba}
 use Rattle.geometry.specs.declared.config.Setting.{Setting}
 use Rattle.geometry.specs.declared.config.Setting.the-variants.{Valid, Invalid}
-use Rattle.geometry.specs.Config.{isValid}
 use Rattle.model.specs.declared.block.Block.{Block}
-use Rattle.model.specs.declared.table.Entry.{Entry}
+use Rattle.model.specs.declared.table.Data.{Data}
+use Rattle.model.specs.declared.verdict.Hits.{Hits}
 use Rattle.model.specs.declared.verdict.Verdict.{Verdict}
-use Rattle.model.specs.declared.verdict.Verdict.the-variants.{Refused, Passed}
+use Rattle.model.specs.declared.verdict.View.{View}
 use Rattle.model.specs.Block.{countOf}
-use Rattle.model.specs.Table.{entryOf}
-use Rattle.model.specs.Checks.{on, judged, controlWrong, lacks, testsWith, tests, sizeIn, bytesOf, lengthsWith, judge}
-use Rattle.checks.specs.declared.order.Limits.{Limits}
-use Rattle.checks.specs.Limits.{Legal, limitsWith, limitsOf}
+use Rattle.model.specs.Table.{Check, FillBit, Counted, SparedWhole, TableRow, applies, rowFor}
+use Rattle.model.specs.Checks.{judged, isUnknown, controlWrong, withParams, notSpared, sizeIn, bytesOf, reachOf, hitsOf, inOrder, judge}
+use Rattle.checks.specs.declared.table.Row.{Row}
+use Rattle.checks.specs.Rows.{has, bitOf, Says}
+use Rattle.checks.specs.Legal.{Legal}
 
 -- ---- a control byte, by its seven low bits
-module _ (e : Entry) (control : ℕ) (some : control % 128 ≡ 0 → ⊥) where
-  pub wrong-fill : control % 128 ≡ 32 → not (e .fill) ≡ controlWrong e control
+module _ (named : Bool) (control : ℕ) (some : control % 128 ≡ 0 → ⊥) where
+  pub wrong-fill : control % 128 ≡ 32 → not named ≡ controlWrong named control
   unfolding controlWrong
   wrong-fill h = rw (ne-eqb _ _ some, eq-eqb _ _ h, and-true)
 
-  pub wrong-other : (control % 128 ≡ 32 → ⊥) → true ≡ controlWrong e control
+  pub wrong-other : (control % 128 ≡ 32 → ⊥) → true ≡ controlWrong named control
   unfolding controlWrong
   wrong-other h = rw (ne-eqb _ _ some, ne-eqb _ _ h, and-false)
 
@@ -51,54 +51,57 @@ size-most (Valid p) l = l p refl .size-most
 pub bytes-most : (b : Block) (setting : Setting) → b .extra < 256 → Legal setting → countOf b * sizeIn setting ≤ 131072
 bytes-most b setting h l = mul-le-mul {n₂ = 256} {m₂ = 512} (count-bounds b h .1) (size-most setting l)
 
--- ---- the order
--- Without parameters there are no three tests, and the code's do not hit.
-limits-last : (e : Entry) (b : Block) (pending : Bool) (setting : Setting) (after : Verdict)
-    → judged (testsWith e b pending setting) after
-    ≡ judged
-    (on (limitsOf e b pending setting .interleave) 0x22 (b .address)
-    ∷ on (limitsOf e b pending setting .past) 0x21 (b .address)
-    ∷ on (limitsOf e b pending setting .pending) 0x16 (b .address)
-    ∷ []) after
-unfolding judged testsWith limitsOf limitsWith pick
-limits-last e b pending Invalid after = refl
-limits-last e b pending (Valid p) after = refl
+-- ---- what the code asks of a row's bits is what the definition asks of the entry
+module _ {row : Row} {e : TableRow} (says : Says row e) where
+  -- a check that applies, and hits
+  pub checked : (check : Check) {bit answer hit asked : Bool} → bit ≡ has (row .checks) (bitOf check) → answer ≡ asked → hit ≡ (bit && answer)
+      → hit ≡ (applies check e && asked)
+  checked check b a h = rw (h, b, a, says .checks check)
 
-module _ (b : Block) (medium : Medium) (present : Bool) (setting : Setting) (pending : Bool) (given area : ℕ) where
-  -- The seven tests are the specification's.
-  order-seven : (e : Entry)
-      → judged
-      (on (not (e .known)) 0x20 (b .address)
-      ∷ on (b .top || (lacks medium e || (e .address && controlWrong e (b .control)))) 0x22 (b .address)
-      ∷ on (e .drive && not present) 0x04 (b .address)
-      ∷ on (e .parameters && not (isValid setting)) 0x0A (b .address)
-      ∷ on (limitsOf e b pending setting .interleave) 0x22 (b .address)
-      ∷ on (limitsOf e b pending setting .past) 0x21 (b .address)
-      ∷ on (limitsOf e b pending setting .pending) 0x16 (b .address)
-      ∷ [])
-      (lengthsWith e b setting given area)
-      ≡ judged (tests e b (record { medium = medium; present = present; setting = setting; pending = pending })) (lengthsWith e b setting given area)
-  unfolding judged tests
-  order-seven e = rw (limits-last e b pending setting (lengthsWith e b setting given area)) refl
+  pub control-checked : (control : ℕ) {named wrong : Bool} → named ≡ has (row .checks) (bitOf FillBit) → wrong ≡ controlWrong named control
+      → wrong ≡ controlWrong (applies FillBit e) control
+  control-checked control n w = rw (w, n, says .checks FillBit)
 
-  -- What the code hands to `order` is what they ask.
-  pub judge-order : (e : Entry) (lacked control checked off wrong absent valid unset : Bool) (limits : Limits) (takes gives : ℕ) (verdict : Verdict)
-      → e ≡ entryOf (b .opcode) → lacked ≡ lacks medium e → control ≡ controlWrong e (b .control)
-      → checked ≡ (e .address && control) → off ≡ (lacked || checked) → wrong ≡ (b .top || off)
-      → absent ≡ (e .drive && not present) → valid ≡ isValid setting → unset ≡ (e .parameters && not valid)
-      → limits ≡ limitsOf e b pending setting → takes ≡ bytesOf (e .takes) b setting → gives ≡ bytesOf (e .gives) b setting
-      → verdict
-      ≡ judged
-      (on (not (e .known)) 0x20 (b .address)
-      ∷ on wrong 0x22 (b .address)
-      ∷ on absent 0x04 (b .address)
-      ∷ on unset 0x0A (b .address)
-      ∷ on (limits .interleave) 0x22 (b .address)
-      ∷ on (limits .past) 0x21 (b .address)
-      ∷ on (limits .pending) 0x16 (b .address)
-      ∷ [])
-      (pick (ltb given takes) (Refused 2) (pick (ltb area gives) (Refused 3) Passed))
-      → verdict ≡ judge b (record { medium = medium; present = present; setting = setting; pending = pending }) given area
-  unfolding judge lengthsWith
-  judge-order e lacked control checked off wrong absent valid unset limits takes gives verdict h₁ h₂ h₃ h₄ h₅ h₆ h₇ h₈ h₉ h₁₀ h₁₁ h₁₂ is =
-      is ∙ rw (h₁₂, h₁₁, h₁₀, h₉, h₈, h₇, h₆, h₅, h₄, h₃, h₂, h₁) (order-seven (entryOf (b .opcode)))
+  pub held-checked : (setting : Setting) (a : Lba) {whole held : Bool} → whole ≡ has (row .checks) (bitOf SparedWhole)
+      → held ≡ withParams setting (notSpared whole a) → held ≡ withParams setting (notSpared (applies SparedWhole e) a)
+  held-checked setting a w h = rw (h, w, says .checks SparedWhole)
+
+  pub unknown-checked : {unknown : Bool} → unknown ≡ isUnknown (row .command) → unknown ≡ isUnknown (e .command)
+  unknown-checked u = rw (u, says .command)
+
+pub bytes-checked : {kind stated : Data} (b : Block) (setting : Setting) (n : ℕ) {bytes : ℕ} → kind ≡ stated → bytes ≡ bytesOf kind b setting
+    → ltb n bytes ≡ ltb n (bytesOf stated b setting)
+bytes-checked b setting n k h = rw (h, k)
+
+-- tests of which some are asked in other words
+pub any-of : (a : Bool) {b c b' c' rest all : Bool} → b ≡ b' → c ≡ c' → rest ≡ (b || c) → all ≡ (a || rest) → all ≡ (a || (b' || c'))
+any-of a b c r h = rw (h, r, b, c)
+
+pub with-pending : (pending : Bool) {held held' all : Bool} → held ≡ held' → all ≡ (pending && held) → all ≡ (pending && held')
+with-pending pending h a = rw (a, h)
+
+-- the nine hits, one by one
+abbrev pub hits : (unknown wrong absent unset interleave past pending short small : Bool) → Hits
+hits unknown wrong absent unset interleave past pending short small =
+    record {
+      unknown = unknown;
+      wrong = wrong;
+      absent = absent;
+      unset = unset;
+      interleave = interleave;
+      past = past;
+      pending = pending;
+      short = short;
+      small = small;
+    }
+
+pub hits-same : {a b c d e f g h i a' b' c' d' e' f' g' h' i' : Bool}
+    → a ≡ a' → b ≡ b' → c ≡ c' → d ≡ d' → e ≡ e' → f ≡ f' → g ≡ g' → h ≡ h' → i ≡ i' → hits a b c d e f g h i ≡ hits a' b' c' d' e' f' g' h' i'
+hits-same p₁ p₂ p₃ p₄ p₅ p₆ p₇ p₈ p₉ = cc
+
+-- ---- a block's verdict
+pub judge-checked : {row : Row} (b : Block) (v : View) (given area : ℕ) {reach : ℕ} {counted : Bool} {found : Hits} {verdict : Verdict}
+    → Says row (rowFor (b .opcode)) → counted ≡ has (row .checks) (bitOf Counted) → reach ≡ reachOf counted b
+    → found ≡ hitsOf (rowFor (b .opcode)) b reach v given area → verdict ≡ judged (inOrder (b .address) found) → verdict ≡ judge b v given area
+unfolding judge
+judge-checked b v given area says n r f h = rw (h, f, r, n, says .checks Counted)

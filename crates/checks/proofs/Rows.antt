@@ -1,38 +1,76 @@
--- Rows of arrays of structs.
-use mathlib.Core.Path.{_≡_, refl}
-use mathlib.Core.Bool.{Bool, true, false}
+-- The code's table of rows, whose checks are bits, says what the definition's says.
+use mathlib.Core.Path.{_≡_, refl, sym, ap, subst, _∙_}
+use mathlib.Core.Bool.{Bool}
 use mathlib.Core.List.{List, [], _∷_, map}
-use Prim.Native.Nat.{ℕ, zero, suc, _+_, _<_}
+use Prim.Native.Nat.{ℕ, zero, suc, _+_, _≤_, _<_}
 use native.Mathlib.Nat.{le-of-suc-le-suc, not-suc-le-zero}
-use lib.ListN.{length, getD}
-use Rattle.model.specs.declared.table.Entry.{Entry}
-use Rattle.model.specs.Table.{table, unknown, entryOf}
+use lib.ListN.{length, getD, List·getD-eq-default}
+use Rattle.model.specs.Table.{Check, HardOnly, Control, FillBit, Present, Parameters, Interleave, Address, Counted, Settled, SparedWhole, checkNumber, isAmong, TableRow, applies, table, unknown, rowFor}
 use Rattle.checks.specs.declared.table.Row.{Row}
-use Rattle.checks.specs.Rows.{has, entryFrom}
+use Rattle.checks.specs.Rows.{has, bitOf, Says}
 
--- An element read of what each element stands for.
+-- An element of what each element stands for: where there is one, or with a default that stands for the default.
 row-read : {A B : Type 0} (f : A → B) (l : List A) (i : ℕ) (d₁ : A) (d₂ : B) → i < length l → f (getD l i d₁) ≡ getD (map f l) i d₂
 row-read f [] i d₁ d₂ h = absurd (not-suc-le-zero h)
 row-read f (x ∷ xs) zero d₁ d₂ h = refl
 row-read f (x ∷ xs) (suc i) d₁ d₂ h = row-read f xs i d₁ d₂ (le-of-suc-le-suc h)
 
--- ---- the code's table: the definition's, its checks as bits
-unfoldable pub bit : Bool → ℕ → ℕ
-bit true n = n
-bit false n = 0
+row-stands : {A B : Type 0} (f : A → B) (l : List A) (i : ℕ) (d : A) → f (getD l i d) ≡ getD (map f l) i (f d)
+row-stands f [] i d = refl
+row-stands f (x ∷ xs) zero d = refl
+row-stands f (x ∷ xs) (suc i) d = row-stands f xs i d
 
-unfoldable pub rowFrom : Entry → Row
-rowFrom e = record {
-  command = e .command;
-  checks = bit (e .known) 1 + bit (e .drive) 2 + bit (e .parameters) 4 + bit (e .address) 8 + bit (e .fill) 16 + bit (e .interleave) 32
-      + bit (e .counted) 64 + bit (e .settled) 128 + bit (e .whole) 256 + bit (e .hard) 512;
-  takes = e .takes;
-  gives = e .gives;
-}
+-- ---- the code's table: the definition's, its checks as bits
+unfoldable pub bitsOf : List Check → ℕ
+bitsOf [] = 0
+bitsOf (check ∷ checks) = bitOf check + bitsOf checks
+
+unfoldable pub rowFrom : TableRow → Row
+rowFrom e = record { command = e .command; checks = bitsOf (e .checks); takes = e .takes; gives = e .gives }
 
 unfoldable pub rows : List Row
 rows = map rowFrom table
 
-pub rows-read : (opcode : ℕ) (d : Row) → opcode < 18 → entryFrom (getD rows opcode d) ≡ entryOf opcode
-unfolding rows rowFrom bit entryFrom has entryOf
-rows-read opcode d h = row-read entryFrom rows opcode d unknown h
+-- ---- each check's bit is set where it applies: ten answers a row, compared by computing
+ten : (Check → Bool) → List Bool
+ten f =
+    map f (HardOnly ∷ Control ∷ FillBit ∷ Present ∷ Parameters ∷ Interleave ∷ Address ∷ Counted ∷ Settled ∷ SparedWhole ∷ [])
+
+ten-each : (f g : Check → Bool) → ten f ≡ ten g → (check : Check) → f check ≡ g check
+unfolding ten
+ten-each f g h HardOnly = ap (λ l. getD l 0 (f HardOnly)) h
+ten-each f g h Control = ap (λ l. getD l 1 (f HardOnly)) h
+ten-each f g h FillBit = ap (λ l. getD l 2 (f HardOnly)) h
+ten-each f g h Present = ap (λ l. getD l 3 (f HardOnly)) h
+ten-each f g h Parameters = ap (λ l. getD l 4 (f HardOnly)) h
+ten-each f g h Interleave = ap (λ l. getD l 5 (f HardOnly)) h
+ten-each f g h Address = ap (λ l. getD l 6 (f HardOnly)) h
+ten-each f g h Counted = ap (λ l. getD l 7 (f HardOnly)) h
+ten-each f g h Settled = ap (λ l. getD l 8 (f HardOnly)) h
+ten-each f g h SparedWhole = ap (λ l. getD l 9 (f HardOnly)) h
+
+bits : TableRow → List Bool
+bits e = ten (λ check. has (bitsOf (e .checks)) (bitOf check))
+
+applied : TableRow → List Bool
+applied e = ten (λ check. applies check e)
+
+table-bits : map bits (unknown ∷ table) ≡ map applied (unknown ∷ table)
+unfolding ten bits applied has bitOf bitsOf isAmong checkNumber
+table-bits = refl
+
+entry-bits : (opcode : ℕ) → bits (rowFor opcode) ≡ applied (rowFor opcode)
+unfolding rowFor
+entry-bits opcode = row-stands bits table opcode unknown ∙ (ap (λ l. getD l (suc opcode) (getD l 0 [])) table-bits ∙ sym (row-stands applied table opcode unknown))
+
+row-says : (opcode : ℕ) → Says (rowFrom (rowFor opcode)) (rowFor opcode)
+unfolding rowFrom bits applied
+row-says opcode = record { command = refl; takes = refl; gives = refl; checks = ten-each _ _ (entry-bits opcode) }
+
+pub rows-read : (opcode : ℕ) (d : Row) → opcode < 18 → Says (getD rows opcode d) (rowFor opcode)
+unfolding rows rowFor
+rows-read opcode d h = subst (λ (row : Row). Says row (rowFor opcode)) (row-read rowFrom table opcode unknown d h) (row-says opcode)
+
+pub rows-past : (opcode : ℕ) → 18 ≤ opcode → Says (rowFrom unknown) (rowFor opcode)
+unfolding rowFor
+rows-past opcode h = subst (λ (e : TableRow). Says (rowFrom e) (rowFor opcode)) (List·getD-eq-default table unknown h) (row-says opcode)

@@ -1,26 +1,28 @@
--- A row of the code's table, and what its bits say.
+-- A row of the code's table, whose checks are bits, and the row that it stands for.
 use Prim.Native.Nat.{ℕ, _/_, _%_}
+use mathlib.Core.Path.{_≡_}
 use mathlib.Core.Bool.{Bool}
 use lib.Dec.{eqb}
-use Rattle.model.specs.declared.table.Entry.{Entry}
+use Rattle.model.specs.Table.{Check, HardOnly, Control, FillBit, Present, Parameters, Interleave, Address, Counted, Settled, SparedWhole, TableRow, applies}
 use Rattle.checks.specs.declared.table.Row.{Row}
 
 unfoldable pub has : (checks bit : ℕ) → Bool
 has checks bit = eqb (checks / bit % 2) 1
 
-unfoldable pub entryFrom : Row → Entry
-entryFrom row = record {
-  command = row .command;
-  known = has (row .checks) 1;
-  drive = has (row .checks) 2;
-  parameters = has (row .checks) 4;
-  address = has (row .checks) 8;
-  fill = has (row .checks) 16;
-  interleave = has (row .checks) 32;
-  counted = has (row .checks) 64;
-  settled = has (row .checks) 128;
-  whole = has (row .checks) 256;
-  hard = has (row .checks) 512;
-  takes = row .takes;
-  gives = row .gives;
-}
+unfoldable pub bitOf : Check → ℕ
+bitOf HardOnly = 1
+bitOf Control = 2
+bitOf FillBit = 4
+bitOf Present = 8
+bitOf Parameters = 16
+bitOf Interleave = 32
+bitOf Address = 64
+bitOf Counted = 128
+bitOf Settled = 256
+bitOf SparedWhole = 512
+
+pub record Says (row : Row) (e : TableRow) : Type 0 where
+  pub command : row .command ≡ e .command
+  pub takes : row .takes ≡ e .takes
+  pub gives : row .gives ≡ e .gives
+  pub checks : (check : Check) → has (row .checks) (bitOf check) ≡ applies check e

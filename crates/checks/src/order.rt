@@ -1,48 +1,73 @@
 // The order of checks.
 use crate::block::count_of;
+use crate::table::ADDRESS;
+use crate::table::CONTROL;
+use crate::table::COUNTED;
+use crate::table::FILL_BIT;
+use crate::table::HARD_ONLY;
+use crate::table::INTERLEAVE;
+use crate::table::PARAMETERS;
+use crate::table::PRESENT;
+use crate::table::Row;
+use crate::table::SETTLED;
+use crate::table::SPARED_WHOLE;
+use crate::table::has;
 use base::logic::both;
 use base::logic::either;
 use geometry::config::Setting;
-use geometry::medium::Medium;
 use geometry::medium::is_floppy;
 use geometry::params::Lba;
 use geometry::params::Params;
 use model::block::Block;
+use model::table::Command;
 use model::table::Data;
-use model::table::Entry;
+use model::verdict::Hits;
 use model::verdict::Verdict;
+use model::verdict::View;
 ghost use mathlib.Core.Path.{_≡_};
-ghost use mathlib.Core.Bool.{_||_};
-ghost use mathlib.Core.List.{[], _∷_};
-ghost use Prim.Native.Nat.{_+_, _-_, _≤_, _<_};
-ghost use lib.Dec.{ltb};
-ghost use Rattle.base.specs.Pick.{pick};
+ghost use Prim.Native.Nat.{_≤_, _<_};
 ghost use Rattle.geometry.specs.Params.{Within};
 ghost use Rattle.geometry.specs.Config.{isValid};
-ghost use Rattle.model.specs.declared.verdict.Verdict.the-variants.{Refused, Passed};
-ghost use Rattle.model.specs.Table.{entryOf};
-ghost use Rattle.model.specs.Checks.{on, judged, controlWrong, lacks, reach, sizeIn, bytesOf, judge};
-ghost use Rattle.checks.specs.Limits.{Legal, limitsWith, limitsOf};
+ghost use Rattle.model.specs.Table.{rowFor};
+ghost use Rattle.model.specs.Checks.{judged, isUnknown, controlWrong, blockWrong, withParams, interleaveWrong, pastEnd, notSpared, sizeIn, bytesOf, reachOf, hitsOf, inOrder, judge};
+ghost use Rattle.model.specs.Premises.{addressLimit, WellFormed};
+ghost use Rattle.checks.specs.Rows.{Says};
+ghost use Rattle.checks.specs.Legal.{Legal};
+
+fn is_unknown(command: Command) -> bool
+    ensures { λ r. ⌜ r ≡ isUnknown command ⌝ }
+{
+    match command {
+        Command::Free(_) => false,
+        Command::OnDisk(_) => false,
+        Command::Unknown => true,
+    }
+}
 
 // A control bit that is not defined.
-fn control_wrong(e: Entry, control: u8) -> bool
-    ensures { λ r. ⌜ r ≡ controlWrong e control ⌝ }
+fn control_wrong(named: bool, control: u8) -> bool
+    ensures { λ r. ⌜ r ≡ controlWrong «named» control ⌝ }
 {
     let low = control % 128;
     if low == 0 {
         return false;
     }
     if low == 32 {
-        return !e.fill;
+        return !named;
     }
     true
 }
 
-// A command that the drive lacks: some are for hard disks only.
-fn lacked(medium: Medium, e: Entry) -> bool
-    ensures { λ r. ⌜ r ≡ lacks medium e ⌝ }
+// 22h by byte 1, by a command that the drive lacks or by a control bit.
+fn block_wrong(row: Row, b: Block, view: View) -> bool
+    requires { ⌜ Says row (rowFor (b .opcode)) ⌝ }
+    ensures { λ r. ⌜ r ≡ blockWrong (rowFor (b .opcode)) b view ⌝ }
 {
-    both(e.hard, is_floppy(medium))
+    let checks = row.checks;
+    let medium = view.medium;
+    let lacked = both(has(checks, HARD_ONLY), is_floppy(medium));
+    let wrong = control_wrong(has(checks, FILL_BIT), b.control);
+    either(b.top, either(lacked, both(has(checks, CONTROL), wrong)))
 }
 
 fn is_valid(setting: Setting) -> bool
@@ -54,108 +79,51 @@ fn is_valid(setting: Setting) -> bool
     }
 }
 
-// What hits of the checks that need parameters.
-pub struct Limits {
-    pub interleave: bool,
-    pub past: bool,
-    pub pending: bool,
-}
-
-fn reach_of(e: Entry, b: Block) -> usize
-    ensures { λ r. ⌜ (r ≡ reach e b) × (1 ≤ r) × (r ≤ 256) ⌝ }
-{
-    if e.counted {
-        return count_of(b);
-    }
-    1
-}
-
-fn interleave_wrong(f: u8, n: usize) -> bool
-    requires { ⌜ 2 ≤ n ⌝ }
-    ensures { λ r. ⌜ r ≡ (ltb f 1 || ltb (n - 1) f) ⌝ }
+fn out_of_range(f: u8, p: Params) -> bool
+    requires { ⌜ Within p ⌝ }
+    ensures { λ r. ⌜ r ≡ interleaveWrong f p ⌝ }
 {
     if f < 1 {
         return true;
     }
-    n - 1 < f as usize
+    p.sectors - 1 < f as usize
 }
 
-fn past_end(a: Lba, reach: usize, last: Lba) -> bool
-    requires { ⌜ (a .0 < 2097152) × (1 ≤ reach) × (reach ≤ 256) ⌝ }
-    ensures { λ r. ⌜ r ≡ ltb (last .0) (a .0 + reach - 1) ⌝ }
-{
-    last.0 < a.0 + (reach as u32) - 1
-}
-
-fn limits_with(e: Entry, b: Block, p: Params, pending: bool) -> Limits
-    requires { ⌜ Within p × (b .address .0 < 2097152) ⌝ }
-    ensures { λ r. ⌜ r ≡ limitsWith e b pending p ⌝ }
-{
-    let a = b.address;
-    let first = p.track_of(a);
-    let past = past_end(a, reach_of(e, b), p.last_address());
-    Limits {
-        interleave: both(e.interleave, interleave_wrong(b.extra, p.sectors)),
-        past: both(e.address, past),
-        pending: both(both(pending, e.settled), !both(e.whole, first.0 == 0)),
-    }
-}
-
-fn limits_of(e: Entry, b: Block, setting: Setting, pending: bool) -> Limits
-    requires { ⌜ Legal setting × (b .address .0 < 2097152) ⌝ }
-    ensures { λ r. ⌜ r ≡ limitsOf e b pending setting ⌝ }
+fn interleave_wrong(f: u8, setting: Setting) -> bool
+    requires { ⌜ Legal setting ⌝ }
+    ensures { λ r. ⌜ r ≡ withParams setting (interleaveWrong f) ⌝ }
 {
     match setting {
-        Setting::Valid(p) => limits_with(e, b, p, pending),
-        Setting::Invalid => Limits {
-            interleave: false,
-            past: false,
-            pending: false,
-        },
+        Setting::Valid(p) => out_of_range(f, p),
+        Setting::Invalid => false,
     }
 }
 
-// The first check that hits, in document 01's order.
-fn order(
-    at: Lba,
-    unknown: bool,
-    wrong: bool,
-    absent: bool,
-    unset: bool,
-    limits: Limits,
-    short: bool,
-    small: bool,
-) -> Verdict
-    ensures { λ r. ⌜ r ≡ judged (on unknown 0x20 at ∷ on wrong 0x22 at ∷ on absent 0x04 at ∷ on unset 0x0A at ∷ on (limits .interleave) 0x22 at ∷ on (limits .past) 0x21 at ∷ on (limits .pending) 0x16 at ∷ []) (pick short (Refused 2) (pick small (Refused 3) Passed)) ⌝ }
+// Up to 1,024 sectors: a Read or Write has 256 at the most, a Copy (request E5) fills as many as that.
+fn past_end(a: Lba, reach: usize, setting: Setting) -> bool
+    requires { ⌜ Legal setting × (a .0 < addressLimit) × (1 ≤ reach) × (reach ≤ 1024) ⌝ }
+    ensures { λ r. ⌜ r ≡ withParams setting (pastEnd a reach) ⌝ }
 {
-    if unknown {
-        return Verdict::Faulty(0x20, at);
+    match setting {
+        Setting::Valid(p) => {
+            let last = p.last_address();
+            last.0 < a.0 + (reach as u32) - 1
+        }
+        Setting::Invalid => false,
     }
-    if wrong {
-        return Verdict::Faulty(0x22, at);
+}
+
+fn not_spared(whole: bool, a: Lba, setting: Setting) -> bool
+    requires { ⌜ Legal setting ⌝ }
+    ensures { λ r. ⌜ r ≡ withParams setting (notSpared «whole» a) ⌝ }
+{
+    match setting {
+        Setting::Valid(p) => {
+            let first = p.track_of(a);
+            !both(whole, first.0 == 0)
+        }
+        Setting::Invalid => false,
     }
-    if absent {
-        return Verdict::Faulty(0x04, at);
-    }
-    if unset {
-        return Verdict::Faulty(0x0A, at);
-    }
-    if limits.interleave {
-        return Verdict::Faulty(0x22, at);
-    }
-    if limits.past {
-        return Verdict::Faulty(0x21, at);
-    }
-    if limits.pending {
-        return Verdict::Faulty(0x16, at);
-    }
-    if short {
-        return Verdict::Refused(2);
-    }
-    if small {
-        return Verdict::Refused(3);
-    }
-    Verdict::Passed
 }
 
 fn size_in(setting: Setting) -> usize
@@ -181,36 +149,79 @@ fn bytes_of(kind: Data, b: Block, setting: Setting) -> usize
     }
 }
 
-// A command of a block of six bytes, up to its own checks.
-pub fn judge(
-    e: Entry,
-    b: Block,
-    medium: Medium,
-    present: bool,
-    setting: Setting,
-    pending: bool,
-    given: usize,
-    area: usize,
-) -> Verdict
-    requires { ⌜ (e ≡ entryOf (b .opcode)) × Legal setting × (b .address .0 < 2097152) ⌝ }
-    ensures { λ r. ⌜ r ≡ judge b (record { medium = medium; present = present; setting = setting; pending = pending }) given area ⌝ }
+fn reach_of(counted: bool, b: Block) -> usize
+    ensures { λ r. ⌜ (r ≡ reachOf «counted» b) × (1 ≤ r) × (r ≤ 256) ⌝ }
 {
-    let takes = e.takes;
-    let gives = e.gives;
-    order(
-        b.address,
-        !e.known,
-        either(
-            b.top,
-            either(
-                lacked(medium, e),
-                both(e.address, control_wrong(e, b.control)),
-            ),
-        ),
-        both(e.drive, !present),
-        both(e.parameters, !is_valid(setting)),
-        limits_of(e, b, setting, pending),
-        given < bytes_of(takes, b, setting),
-        area < bytes_of(gives, b, setting),
-    )
+    if counted {
+        return count_of(b);
+    }
+    1
+}
+
+// The checks that hit.
+fn hits_of(row: Row, b: Block, reach: usize, view: View, given: usize, area: usize) -> Hits
+    requires { ⌜ Says row (rowFor (b .opcode)) × Legal (view .setting) × WellFormed b × (1 ≤ reach) × (reach ≤ 1024) ⌝ }
+    ensures { λ r. ⌜ r ≡ hitsOf (rowFor (b .opcode)) b reach view given area ⌝ }
+{
+    let command = row.command;
+    let checks = row.checks;
+    let takes = row.takes;
+    let gives = row.gives;
+    let setting = view.setting;
+    let at = b.address;
+    let held = not_spared(has(checks, SPARED_WHOLE), at, setting);
+    Hits {
+        unknown: is_unknown(command),
+        wrong: block_wrong(row, b, view),
+        absent: both(has(checks, PRESENT), !view.present),
+        unset: both(has(checks, PARAMETERS), !is_valid(setting)),
+        interleave: both(has(checks, INTERLEAVE), interleave_wrong(b.extra, setting)),
+        past: both(has(checks, ADDRESS), past_end(at, reach, setting)),
+        pending: both(view.pending, both(has(checks, SETTLED), held)),
+        short: given < bytes_of(takes, b, setting),
+        small: area < bytes_of(gives, b, setting),
+    }
+}
+
+// The first check that hits, in document 01's order.
+fn order(at: Lba, hits: Hits) -> Verdict
+    ensures { λ r. ⌜ r ≡ judged (inOrder at hits) ⌝ }
+{
+    if hits.unknown {
+        return Verdict::Faulty(0x20, at);
+    }
+    if hits.wrong {
+        return Verdict::Faulty(0x22, at);
+    }
+    if hits.absent {
+        return Verdict::Faulty(0x04, at);
+    }
+    if hits.unset {
+        return Verdict::Faulty(0x0A, at);
+    }
+    if hits.interleave {
+        return Verdict::Faulty(0x22, at);
+    }
+    if hits.past {
+        return Verdict::Faulty(0x21, at);
+    }
+    if hits.pending {
+        return Verdict::Faulty(0x16, at);
+    }
+    if hits.short {
+        return Verdict::Refused(2);
+    }
+    if hits.small {
+        return Verdict::Refused(3);
+    }
+    Verdict::Passed
+}
+
+// A command of a block of six bytes, up to its own checks.
+pub fn judge(row: Row, b: Block, view: View, given: usize, area: usize) -> Verdict
+    requires { ⌜ Says row (rowFor (b .opcode)) × Legal (view .setting) × WellFormed b ⌝ }
+    ensures { λ r. ⌜ r ≡ judge b view given area ⌝ }
+{
+    let reach = reach_of(has(row.checks, COUNTED), b);
+    order(b.address, hits_of(row, b, reach, view, given, area))
 }

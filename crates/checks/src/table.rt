@@ -1,38 +1,42 @@
 // The commands as one constant table, indexed by opcode.
+use model::table::ArmCommand;
 use model::table::Command;
 use model::table::Data;
-use model::table::Entry;
+use model::table::DiskCommand;
+use model::table::FreeCommand;
+use model::table::SectorCommand;
+use model::table::TrackCommand;
 ghost use mathlib.Core.Path.{_≡_};
 ghost use Prim.Native.Nat.{_<_};
-ghost use Rattle.model.specs.Table.{entryOf};
-ghost use Rattle.checks.specs.Rows.{has, entryFrom};
+ghost use Rattle.model.specs.Table.{rowFor};
+ghost use Rattle.checks.specs.Rows.{has, Says};
 
 // The checks that apply are bits, since a small row is cheap to index.
 
-// else 20h
-const KNOWN: u16 = 1;
-// 04h
-const DRIVE: u16 = 2;
-// 0Ah
-const PARAMETERS: u16 = 4;
-// control bits and the address
-const ADDRESS: u16 = 8;
-// control bit 5 is defined
-const FILL: u16 = 16;
-// byte 4 is an interleave
-const INTERLEAVE: u16 = 32;
-// byte 4 is a count
-const COUNTED: u16 = 64;
-// 16h
-const SETTLED: u16 = 128;
-// but not from track 0 on
-const WHOLE: u16 = 256;
 // hard disks only: 22h on a floppy
-const HARD: u16 = 512;
+pub const HARD_ONLY: u16 = 1;
+// control bits
+pub const CONTROL: u16 = 2;
+// control bit 5 is defined
+pub const FILL_BIT: u16 = 4;
+// 04h
+pub const PRESENT: u16 = 8;
+// 0Ah
+pub const PARAMETERS: u16 = 16;
+// byte 4 is an interleave
+pub const INTERLEAVE: u16 = 32;
+// 21h
+pub const ADDRESS: u16 = 64;
+// byte 4 is a count
+pub const COUNTED: u16 = 128;
+// 16h
+pub const SETTLED: u16 = 256;
+// but not from track 0 on
+pub const SPARED_WHOLE: u16 = 512;
 
-const ON_DRIVE: u16 = KNOWN + DRIVE + PARAMETERS;
+const ON_DRIVE: u16 = PRESENT + PARAMETERS;
 
-const ON_TRACK: u16 = ON_DRIVE + ADDRESS + SETTLED;
+const AT_ADDRESS: u16 = CONTROL + PRESENT + PARAMETERS + ADDRESS + SETTLED;
 
 pub struct Row {
     pub command: Command,
@@ -50,97 +54,98 @@ const UNKNOWN: Row = Row {
 
 const TABLE: [Row; 18] = [
     Row {
-        command: Command::TestReady,
+        command: Command::OnDisk(DiskCommand::ArmWork(ArmCommand::TestReady)),
         checks: ON_DRIVE,
         takes: Data::Nothing,
         gives: Data::Nothing,
     },
     Row {
-        command: Command::Recalibrate,
+        command: Command::OnDisk(DiskCommand::ArmWork(ArmCommand::Recalibrate)),
         checks: ON_DRIVE,
         takes: Data::Nothing,
         gives: Data::Nothing,
     },
     UNKNOWN,
     Row {
-        command: Command::RequestSense,
-        checks: KNOWN,
+        command: Command::Free(FreeCommand::RequestSense),
+        checks: 0,
         takes: Data::Nothing,
         gives: Data::Sense,
     },
     Row {
-        command: Command::FormatDrive,
-        checks: ON_TRACK + FILL + INTERLEAVE + WHOLE,
+        command: Command::OnDisk(DiskCommand::TrackWork(TrackCommand::FormatDrive)),
+        checks: AT_ADDRESS + FILL_BIT + INTERLEAVE + SPARED_WHOLE,
         takes: Data::Nothing,
         gives: Data::Nothing,
     },
     Row {
-        command: Command::CheckTrack,
-        checks: ON_TRACK + INTERLEAVE + HARD,
+        command: Command::OnDisk(DiskCommand::TrackWork(TrackCommand::CheckTrack)),
+        checks: AT_ADDRESS + INTERLEAVE + HARD_ONLY,
         takes: Data::Nothing,
         gives: Data::Nothing,
     },
     Row {
-        command: Command::FormatTrack,
-        checks: ON_TRACK + FILL + INTERLEAVE,
+        command: Command::OnDisk(DiskCommand::TrackWork(TrackCommand::FormatTrack)),
+        checks: AT_ADDRESS + FILL_BIT + INTERLEAVE,
         takes: Data::Nothing,
         gives: Data::Nothing,
     },
     Row {
-        command: Command::FormatBadTrack,
-        checks: ON_TRACK + INTERLEAVE,
+        command: Command::OnDisk(DiskCommand::TrackWork(TrackCommand::FormatBadTrack)),
+        checks: AT_ADDRESS + INTERLEAVE,
         takes: Data::Nothing,
         gives: Data::Nothing,
     },
     Row {
-        command: Command::Read,
-        checks: ON_TRACK + COUNTED,
+        command: Command::OnDisk(DiskCommand::SectorWork(SectorCommand::Read)),
+        checks: AT_ADDRESS + COUNTED,
         takes: Data::Nothing,
         gives: Data::Sectors,
     },
     UNKNOWN,
     Row {
-        command: Command::Write,
-        checks: ON_TRACK + COUNTED,
+        command: Command::OnDisk(DiskCommand::SectorWork(SectorCommand::Write)),
+        checks: AT_ADDRESS + COUNTED,
         takes: Data::Sectors,
         gives: Data::Nothing,
     },
     Row {
-        command: Command::Seek,
-        checks: ON_TRACK,
+        command: Command::OnDisk(DiskCommand::ArmWork(ArmCommand::Seek)),
+        checks: AT_ADDRESS,
         takes: Data::Nothing,
         gives: Data::Nothing,
     },
     UNKNOWN,
     UNKNOWN,
     Row {
-        command: Command::AssignAlternate,
-        checks: ON_TRACK + FILL + INTERLEAVE + HARD,
+        command: Command::OnDisk(DiskCommand::TrackWork(TrackCommand::AssignAlternate)),
+        checks: AT_ADDRESS + FILL_BIT + INTERLEAVE + HARD_ONLY,
         takes: Data::Alternate,
         gives: Data::Nothing,
     },
     Row {
-        command: Command::WriteBuffer,
-        checks: KNOWN,
+        command: Command::Free(FreeCommand::WriteBuffer),
+        checks: 0,
         takes: Data::Buffer,
         gives: Data::Nothing,
     },
     Row {
-        command: Command::ReadBuffer,
-        checks: KNOWN,
+        command: Command::Free(FreeCommand::ReadBuffer),
+        checks: 0,
         takes: Data::Nothing,
         gives: Data::Buffer,
     },
     Row {
-        command: Command::Initialize,
-        checks: KNOWN + DRIVE,
+        command: Command::Free(FreeCommand::Initialize),
+        checks: PRESENT,
         takes: Data::Configuration,
         gives: Data::Nothing,
     },
 ];
 
-fn row_of(opcode: u8) -> Row
-    ensures { λ r. ⌜ entryFrom r ≡ entryOf opcode ⌝ }
+// What the table says of an opcode.
+pub fn row_of(opcode: u8) -> Row
+    ensures { λ r. ⌜ Says r (rowFor opcode) ⌝ }
 {
     if opcode < 18 {
         return TABLE[opcode as usize];
@@ -148,35 +153,10 @@ fn row_of(opcode: u8) -> Row
     UNKNOWN
 }
 
-fn has(checks: u16, bit: u16) -> bool
+// Whether a row has a check's bit.
+pub fn has(checks: u16, bit: u16) -> bool
     requires { ⌜ 0 < bit ⌝ }
     ensures { λ r. ⌜ r ≡ has checks bit ⌝ }
 {
     checks / bit % 2 == 1
-}
-
-// What the table says of an opcode.
-pub fn entry_of(opcode: u8) -> Entry
-    ensures { λ r. ⌜ r ≡ entryOf opcode ⌝ }
-{
-    let row = row_of(opcode);
-    let command = row.command;
-    let checks = row.checks;
-    let takes = row.takes;
-    let gives = row.gives;
-    Entry {
-        command: command,
-        known: has(checks, KNOWN),
-        drive: has(checks, DRIVE),
-        parameters: has(checks, PARAMETERS),
-        address: has(checks, ADDRESS),
-        fill: has(checks, FILL),
-        interleave: has(checks, INTERLEAVE),
-        counted: has(checks, COUNTED),
-        settled: has(checks, SETTLED),
-        whole: has(checks, WHOLE),
-        hard: has(checks, HARD),
-        takes: takes,
-        gives: gives,
-    }
 }

@@ -1,128 +1,133 @@
 -- What passed checks give to each command: what its function asks for.
-use Prim.Native.Nat.{ℕ, _+_, _*_, _≤_, _<_}
+use Prim.Native.Nat.{ℕ, _*_, _≤_}
 use mathlib.Core.Path.{_≡_, refl, ap, subst, _∙_}
-use mathlib.Core.Bool.{true, false}
 use mathlib.Core.List.{List}
+use native.Mathlib.Omega.{arith}
 use lib.ListN.{length}
 use Rattle.geometry.specs.declared.params.Params.{Params}
 use Rattle.geometry.specs.declared.config.Setting.{Setting}
 use Rattle.geometry.specs.declared.config.Setting.the-variants.{Valid}
-use Rattle.geometry.specs.Params.{trackCount, trackOf}
 use Rattle.geometry.specs.Medium.{mediumOf}
 use Rattle.geometry.proofs.Settings.{setting-within}
 use Rattle.track.specs.Image.{Fits}
 use Rattle.model.specs.declared.block.Block.{Block}
 use Rattle.model.specs.declared.table.Command.{Command}
-use Rattle.model.specs.declared.table.Command.the-variants.{RequestSense, FormatDrive, CheckTrack, FormatTrack, FormatBadTrack, Read, Write, AssignAlternate, WriteBuffer, ReadBuffer, Initialize}
-use Rattle.model.specs.declared.table.Entry.{Entry}
-use Rattle.model.specs.declared.record.Controller.{Controller}
+use Rattle.model.specs.declared.table.Command.the-variants.{Free, OnDisk}
+use Rattle.model.specs.declared.table.FreeCommand.{FreeCommand}
+use Rattle.model.specs.declared.table.FreeCommand.the-variants.{RequestSense, WriteBuffer, ReadBuffer, Initialize}
+use Rattle.model.specs.declared.table.DiskCommand.{DiskCommand}
+use Rattle.model.specs.declared.table.DiskCommand.the-variants.{TrackWork, SectorWork}
+use Rattle.model.specs.declared.table.TrackCommand.{TrackCommand}
+use Rattle.model.specs.declared.table.TrackCommand.the-variants.{FormatDrive, CheckTrack, FormatTrack, FormatBadTrack, AssignAlternate}
+use Rattle.model.specs.declared.table.SectorCommand.{SectorCommand}
+use Rattle.model.specs.declared.table.SectorCommand.the-variants.{Read, Write}
+use Rattle.model.specs.declared.record.Drive.{Drive}
 use Rattle.model.specs.Block.{countOf}
-use Rattle.model.specs.Table.{entryOf}
+use Rattle.model.specs.Table.{checkNumber, isAmong, TableRow, rowFor}
 use Rattle.model.specs.Checks.{sizeIn, bytesOf}
-use Rattle.model.specs.Record.{driveAt, settingIn}
+use Rattle.model.specs.Record.{settingIn}
 use Rattle.model.specs.Engine.{viewOf}
+use Rattle.model.specs.Premises.{OnTrack}
 use Rattle.model.proofs.engine.Checked.{opcodeFor, row-of, Cleared, cleared, given-enough, area-enough, interleave-in, track-cleared, count-cleared}
-use Rattle.model.proofs.claim.Current.{setting-known}
-use Rattle.dispatch.specs.Admitted.{Admitted}
+use Rattle.model.proofs.engine.Known.{setting-known}
+use Rattle.dispatch.specs.Ready.{Admitted, FreeReady, TrackReady, SectorReady}
 
-row : (b : Block) (command : Command) → entryOf (b .opcode) .command ≡ command → entryOf (b .opcode) ≡ entryOf (opcodeFor command)
-row b command is = row-of (b .opcode) ∙ ap (λ (k : Command). entryOf (opcodeFor k)) is
+-- the row of a command, by an opcode that has it
+row : (b : Block) (command : Command) → rowFor (b .opcode) .command ≡ command → rowFor (b .opcode) ≡ rowFor (opcodeFor command)
+row b command is = row-of (b .opcode) ∙ ap (λ (k : Command). rowFor (opcodeFor k)) is
+
+-- ---- the same command by its name
+pub free-as : (command k : FreeCommand) (given area : ℕ) → command ≡ k → FreeReady command given area → FreeReady k given area
+free-as command k given area is ready = subst (λ (x : FreeCommand). FreeReady x given area) is ready
+
+pub track-as : (command k : TrackCommand) (given : ℕ) → command ≡ k → TrackReady command given → TrackReady k given
+track-as command k given is ready = subst (λ (x : TrackCommand). TrackReady x given) is ready
+
+pub sector-as : (command k : SectorCommand) (b : Block) (p : Params) (image : List ℕ) (given area : ℕ) → command ≡ k
+    → SectorReady command b p image given area → SectorReady k b p image given area
+sector-as command k b p image given area is ready = subst (λ (x : SectorCommand). SectorReady x b p image given area) is ready
 
 -- ---- lengths of data
-module _ {c : Controller} {b : Block} {given area size : ℕ} (ok : Admitted c b given area size) where
-  takes : (command : Command) → entryOf (b .opcode) .command ≡ command
-      → bytesOf (entryOf (opcodeFor command) .takes) b (settingIn (mediumOf (b .drive)) (driveAt c (b .drive)) size) ≤ given
+module _ {b : Block} {entry : Drive} {given area image : ℕ} (ok : Admitted b entry given area image) where
+  takes : (command : Command) → rowFor (b .opcode) .command ≡ command
+      → bytesOf (rowFor (opcodeFor command) .takes) b (settingIn (mediumOf (b .drive)) entry image) ≤ given
   unfolding viewOf
   takes command is =
-      subst (λ (e : Entry). bytesOf (e .takes) b (settingIn (mediumOf (b .drive)) (driveAt c (b .drive)) size) ≤ given) (row b command is)
-      (given-enough b (viewOf (mediumOf (b .drive)) (driveAt c (b .drive)) size) given area (ok .passed))
+      subst (λ (e : TableRow). bytesOf (e .takes) b (settingIn (mediumOf (b .drive)) entry image) ≤ given) (row b command is)
+      (given-enough b (viewOf (mediumOf (b .drive)) entry image) given area (ok .passed))
 
-  gives : (command : Command) → entryOf (b .opcode) .command ≡ command
-      → bytesOf (entryOf (opcodeFor command) .gives) b (settingIn (mediumOf (b .drive)) (driveAt c (b .drive)) size) ≤ area
+  gives : (command : Command) → rowFor (b .opcode) .command ≡ command
+      → bytesOf (rowFor (opcodeFor command) .gives) b (settingIn (mediumOf (b .drive)) entry image) ≤ area
   unfolding viewOf
   gives command is =
-      subst (λ (e : Entry). bytesOf (e .gives) b (settingIn (mediumOf (b .drive)) (driveAt c (b .drive)) size) ≤ area) (row b command is)
-      (area-enough b (viewOf (mediumOf (b .drive)) (driveAt c (b .drive)) size) given area (ok .passed))
+      subst (λ (e : TableRow). bytesOf (e .gives) b (settingIn (mediumOf (b .drive)) entry image) ≤ area) (row b command is)
+      (area-enough b (viewOf (mediumOf (b .drive)) entry image) given area (ok .passed))
 
-  pub sense-admits : entryOf (b .opcode) .command ≡ RequestSense → (b .drive < 4) × (4 ≤ area)
-  unfolding entryOf opcodeFor bytesOf
-  sense-admits is = (ok .drive, gives RequestSense is)
-
-  pub buffer-read-admits : entryOf (b .opcode) .command ≡ ReadBuffer → (b .drive < 4) × (512 ≤ area)
-  unfolding entryOf opcodeFor bytesOf
-  buffer-read-admits is = (ok .drive, gives ReadBuffer is)
-
-  pub buffer-write-admits : entryOf (b .opcode) .command ≡ WriteBuffer → (b .drive < 4) × (512 ≤ given)
-  unfolding entryOf opcodeFor bytesOf
-  buffer-write-admits is = (ok .drive, takes WriteBuffer is)
-
-  pub initialize-admits : entryOf (b .opcode) .command ≡ Initialize → (b .drive < 4) × (b .address .0 < 2097152) × (10 ≤ given)
-  unfolding entryOf opcodeFor bytesOf
-  initialize-admits is = (ok .drive, ok .address, takes Initialize is)
+  pub free-admits : (command : FreeCommand) → rowFor (b .opcode) .command ≡ Free command → FreeReady command given area
+  unfolding FreeReady rowFor opcodeFor bytesOf
+  free-admits RequestSense is = gives (Free RequestSense) is
+  free-admits WriteBuffer is = takes (Free WriteBuffer) is
+  free-admits ReadBuffer is = gives (Free ReadBuffer) is
+  free-admits Initialize is = takes (Free Initialize) is
 
 -- ---- parameters in force
--- a command on the block's track, with an interleave
-abbrev pub OnTrack : Block → Params → (image : List ℕ) → Type 0
-OnTrack b p image =
-    Fits p image × (b .drive < 4) × (b .address .0 < 2097152) × (trackOf p (b .address) .0 < trackCount p) × (b .extra < p .sectors)
-
-module _ {c : Controller} {b : Block} {given area : ℕ} (image : List ℕ) {p : Params} (ok : Admitted c b given area (length image))
-    (valid : settingIn (mediumOf (b .drive)) (driveAt c (b .drive)) (length image) ≡ Valid p) where
-  pub fits : Fits p image
-  unfolding settingIn
+module _ {b : Block} {entry : Drive} {given area : ℕ} (image : List ℕ) {p : Params} (ok : Admitted b entry given area (length image))
+    (valid : settingIn (mediumOf (b .drive)) entry (length image) ≡ Valid p) where
+  fits : Fits p image
   fits =
       let medium = mediumOf (b .drive) in
-      let entry = driveAt c (b .drive) in
       let w = setting-within medium (entry .config) (length image) p (setting-known medium entry (length image) p valid) in
       record { within = w .0; long = w .1 }
 
-  clear : (command : Command) → entryOf (b .opcode) .command ≡ command
-      → Cleared (entryOf (opcodeFor command)) b p (driveAt c (b .drive) .pending) given
+  clear : (command : DiskCommand) → rowFor (b .opcode) .command ≡ OnDisk command
+      → Cleared (rowFor (opcodeFor (OnDisk command))) b p (entry .pending) given
   unfolding viewOf
   clear command is =
-      subst (λ (e : Entry). Cleared e b p (driveAt c (b .drive) .pending) given) (row b command is)
-      (cleared b (viewOf (mediumOf (b .drive)) (driveAt c (b .drive)) (length image)) given area (ok .passed) p valid)
+      subst (λ (e : TableRow). Cleared e b p (entry .pending) given) (row b (OnDisk command) is)
+      (cleared b (viewOf (mediumOf (b .drive)) entry (length image)) given area (ok .passed) p valid)
 
-  on-track : (command : Command) → entryOf (b .opcode) .command ≡ command → entryOf (opcodeFor command) .address ≡ true
-      → entryOf (opcodeFor command) .counted ≡ false → entryOf (opcodeFor command) .interleave ≡ true → OnTrack b p image
-  on-track command is a n i =
+  -- every track command has the checks of address and interleave, and no count
+  pub track-admits : (command : TrackCommand) → rowFor (b .opcode) .command ≡ OnDisk (TrackWork command) → OnTrack b p image × TrackReady command given
+  unfolding TrackReady rowFor opcodeFor isAmong checkNumber bytesOf
+  track-admits FormatDrive is =
+      let c = clear (TrackWork FormatDrive) is in
       let w = fits .within in
-      let t = clear command is in
-      (fits, ok .drive, ok .address, track-cleared w t a n, interleave-in w t i .1)
-
-  pub drive-admits : entryOf (b .opcode) .command ≡ FormatDrive → OnTrack b p image
-  unfolding entryOf opcodeFor
-  drive-admits is = on-track FormatDrive is refl refl refl
-
-  pub check-admits : entryOf (b .opcode) .command ≡ CheckTrack → OnTrack b p image
-  unfolding entryOf opcodeFor
-  check-admits is = on-track CheckTrack is refl refl refl
-
-  pub sound-admits : entryOf (b .opcode) .command ≡ FormatTrack → OnTrack b p image
-  unfolding entryOf opcodeFor
-  sound-admits is = on-track FormatTrack is refl refl refl
-
-  pub bad-admits : entryOf (b .opcode) .command ≡ FormatBadTrack → OnTrack b p image
-  unfolding entryOf opcodeFor
-  bad-admits is = on-track FormatBadTrack is refl refl refl
-
-  pub assign-admits : entryOf (b .opcode) .command ≡ AssignAlternate
-      → Fits p image × (b .drive < 4) × (b .address .0 < 2097152) × (trackOf p (b .address) .0 < trackCount p) × (b .extra < p .sectors)
-      × (3 ≤ given)
-  unfolding entryOf opcodeFor bytesOf
-  assign-admits is = let t = on-track AssignAlternate is refl refl refl in (t .0, t .1, t .2, t .3, t .4, takes ok AssignAlternate is)
+      (record { fits = fits; block = ok .block; track = track-cleared w c refl refl; interleave = interleave-in w c refl .1 }, omega arith)
+  track-admits CheckTrack is =
+      let c = clear (TrackWork CheckTrack) is in
+      let w = fits .within in
+      (record { fits = fits; block = ok .block; track = track-cleared w c refl refl; interleave = interleave-in w c refl .1 }, omega arith)
+  track-admits FormatTrack is =
+      let c = clear (TrackWork FormatTrack) is in
+      let w = fits .within in
+      (record { fits = fits; block = ok .block; track = track-cleared w c refl refl; interleave = interleave-in w c refl .1 }, omega arith)
+  track-admits FormatBadTrack is =
+      let c = clear (TrackWork FormatBadTrack) is in
+      let w = fits .within in
+      (record { fits = fits; block = ok .block; track = track-cleared w c refl refl; interleave = interleave-in w c refl .1 }, omega arith)
+  track-admits AssignAlternate is =
+      let c = clear (TrackWork AssignAlternate) is in
+      let w = fits .within in (
+        record { fits = fits; block = ok .block; track = track-cleared w c refl refl; interleave = interleave-in w c refl .1 },
+        takes ok (OnDisk (TrackWork AssignAlternate)) is,
+      )
 
   -- a command on as many sectors as its count says
-  sectors-room : (room : ℕ) → countOf b * sizeIn (settingIn (mediumOf (b .drive)) (driveAt c (b .drive)) (length image)) ≤ room → countOf b * p .size ≤ room
+  room : (len : ℕ) → countOf b * sizeIn (settingIn (mediumOf (b .drive)) entry (length image)) ≤ len → countOf b * p .size ≤ len
   unfolding sizeIn
-  sectors-room room h = subst (λ (s : Setting). countOf b * sizeIn s ≤ room) valid h
+  room len h = subst (λ (s : Setting). countOf b * sizeIn s ≤ len) valid h
 
-  pub read-admits : entryOf (b .opcode) .command ≡ Read
-      → Fits p image × (b .drive < 4) × (b .address .0 + countOf b ≤ trackCount p * p .sectors) × (countOf b * p .size ≤ area)
-  unfolding entryOf opcodeFor bytesOf
-  read-admits is = (fits, ok .drive, count-cleared (fits .within) (clear Read is) refl refl, sectors-room area (gives ok Read is))
-
-  pub write-admits : entryOf (b .opcode) .command ≡ Write
-      → Fits p image × (b .drive < 4) × (b .address .0 + countOf b ≤ trackCount p * p .sectors) × (countOf b * p .size ≤ given)
-  unfolding entryOf opcodeFor bytesOf
-  write-admits is = (fits, ok .drive, count-cleared (fits .within) (clear Write is) refl refl, sectors-room given (takes ok Write is))
+  pub sector-admits : (command : SectorCommand) → rowFor (b .opcode) .command ≡ OnDisk (SectorWork command) → SectorReady command b p image given area
+  unfolding SectorReady rowFor opcodeFor isAmong checkNumber bytesOf
+  sector-admits Read is = record {
+    fits = fits;
+    block = ok .block;
+    inside = count-cleared (fits .within) (clear (SectorWork Read) is) refl refl;
+    enough = room area (gives ok (OnDisk (SectorWork Read)) is);
+  }
+  sector-admits Write is = record {
+    fits = fits;
+    block = ok .block;
+    inside = count-cleared (fits .within) (clear (SectorWork Write) is) refl refl;
+    enough = room given (takes ok (OnDisk (SectorWork Write)) is);
+  }

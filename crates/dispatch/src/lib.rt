@@ -1,2 +1,3 @@
-// A command whose block is taken apart: the checks, then the function that carries it out, on one image.
+// A command on its drive: the checks, then the function that carries it out, which is lent what its group uses.
+pub mod groups;
 pub mod obey;

@@ -1,4 +1,4 @@
-// How a call ends: the sense, the drives of a record, the answer; and the commands that end so at once.
+// How a command ends: the sense and the answer; and the commands that move the sense and the buffer.
 pub mod buffer;
-pub mod record;
+pub mod ending;
 pub mod sense;

@@ -3,6 +3,7 @@ use geometry::params::Lba;
 ghost use mathlib.Core.Path.{_≡_};
 ghost use Prim.Native.Nat.{_<_};
 ghost use Rattle.model.specs.Sense.{addressed, senseOf};
+ghost use Rattle.model.specs.Premises.{addressLimit};
 
 // Whether a code gives an address.
 fn is_addressed(code: u8) -> bool
@@ -24,7 +25,7 @@ fn is_addressed(code: u8) -> bool
 }
 
 pub fn sense_of(code: u8, drive: u8, at: Lba) -> [u8; 4]
-    requires { ⌜ (code < 0x80) × (drive < 4) × (at .0 < 2097152) ⌝ }
+    requires { ⌜ (code < 0x80) × (drive < 4) × (at .0 < addressLimit) ⌝ }
     ensures { λ r. ⌜ r ≡ senseOf code drive at ⌝ }
 {
     if is_addressed(code) {

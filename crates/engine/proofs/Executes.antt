@@ -1,5 +1,5 @@
 -- A call put together: a block that is not six bytes, or what the command leaves for the drive that it names.
-use mathlib.Core.Path.{_≡_, refl, sym, ap, _∙_}
+use mathlib.Core.Path.{_≡_, sym, ap, _∙_}
 use mathlib.Core.List.{List, []}
 use Prim.Native.Nat.{ℕ, _<_}
 use native.Mathlib.Omega.{arith}
@@ -8,51 +8,59 @@ use borrow.Author.Tests.{eq-eqb, ne-eqb}
 use Rattle.base.specs.Byte.{byte}
 use Rattle.base.proofs.Decide.{pick-true, pick-false}
 use Rattle.model.specs.declared.block.Block.{Block}
+use Rattle.model.specs.declared.record.Drive.{Drive}
 use Rattle.model.specs.declared.record.Controller.{Controller}
 use Rattle.model.specs.declared.record.Answer.{Answer}
-use Rattle.model.specs.declared.record.Outcome.{Outcome}
+use Rattle.model.specs.declared.record.Ending.{Ending}
 use Rattle.model.specs.Block.{blockOf}
-use Rattle.model.specs.Record.{bareAnswer, bareOutcome, Effect}
-use Rattle.model.specs.Engine.{obey, imageOf, left, Result, onImages, execute}
-use Rattle.endings.specs.Leaves.{Left, leftNow, leftBy}
-use Rattle.engine.specs.Results.{resultNow}
+use Rattle.model.specs.Record.{blankDrive, driveAt, bareAnswer, Effect}
+use Rattle.model.specs.Engine.{obey, imageOf, left, onDrive, execute}
+use Rattle.model.specs.Premises.{WellFormed}
+use Rattle.endings.specs.Left.{Left, leftNow, leftBy}
+use Rattle.engine.specs.Results.{resultNow, Lent, lentNow, lentBy, obeyed}
 
 -- ---- the fields of a block
-pub block-fields : (bytes : List ℕ) (b : Block) → b ≡ blockOf bytes → ((i : ℕ) → byte bytes i < 256) → (b .drive < 4) × (b .address .0 < 2097152)
+pub block-formed : (bytes : List ℕ) (b : Block) → b ≡ blockOf bytes → ((i : ℕ) → byte bytes i < 256) → WellFormed b
 unfolding blockOf
-block-fields bytes b e below = rw e (omega arith, omega (arith, below 2, below 3))
+block-formed bytes b e below = rw e (record { drive = omega arith; address = omega (arith, below 2, below 3) })
 
--- ---- what a call leaves, put together
-left-put : (drive : ℕ) (effect : Effect) (area : List ℕ) (images : List (List ℕ)) (l : Left) → l ≡ leftBy effect area
-    → resultNow (l .outcome) (l .area) (set images drive (l .image)) ≡ left drive effect area images
-unfolding left leftBy
-left-put drive effect area images l e = rw e
+-- ---- on the image of drive k, from what the command leaves there
+lent-put : (drive : ℕ) (e : Effect) (area : List ℕ) (images : List (List ℕ)) (l : Left) → l ≡ leftBy e area
+    → lentNow (l .ending) (l .buffer) (l .area) (set images drive (l .image)) ≡ lentBy drive e area images
+unfolding lentBy leftBy
+lent-put drive e area images l h = rw h
 
--- on the image of drive k, from what the command leaves there
-pub on-image : (b : Block) (given : List ℕ) (c : Controller) (area : List ℕ) (images : List (List ℕ)) (outcome : Outcome) (after image : List ℕ) (k : ℕ)
-    → b .drive ≡ k → leftNow outcome after image ≡ leftBy (obey b given (length area) c (getD images k [])) area
-    → resultNow outcome after (set images k image) ≡ onImages b given c area images
-unfolding imageOf
-on-image b given c area images outcome after image k e h =
-    left-put k _ area images _ h ∙ ap (λ (n : ℕ). left n (obey b given (length area) c (imageOf n images)) area images) (sym e)
+pub on-image : (b : Block) (given : List ℕ) (entry : Drive) (buffer area : List ℕ) (images : List (List ℕ)) (r : Ending) (buffered after image : List ℕ) (k : ℕ)
+    → b .drive ≡ k → leftNow r buffered after image ≡ leftBy (obey b given (length area) entry buffer (getD images k [])) area
+    → lentNow r buffered after (set images k image) ≡ obeyed b given entry buffer area images
+unfolding imageOf obeyed
+on-image b given entry buffer area images r buffered after image k e h =
+    lent-put k _ area images _ h
+    ∙ ap (λ (n : ℕ). lentBy n (obey b given (length area) entry buffer (imageOf n images)) area images) (sym e)
 
 -- the fourth drive is none of the first three
 pub fourth : (drive : ℕ) → drive < 4 → (drive ≡ 0 → ⊥) → (drive ≡ 1 → ⊥) → (drive ≡ 2 → ⊥) → drive ≡ 3
 fourth drive h n₀ n₁ n₂ = omega arith
 
--- ---- the block
--- a refusal by its answer
-pub bare-is : (c : Controller) (number : ℕ) (answer : Answer) → answer ≡ bareAnswer number → record { controller = c; answer = answer } ≡ bareOutcome number c
-unfolding bareOutcome
-bare-is c number answer e = rw e refl
-
+-- ---- the record
 module _ (c : Controller) (block given area : List ℕ) (images : List (List ℕ)) where
-  pub execute-refused : (outcome : Outcome) → (length block ≡ 6 → ⊥) → outcome ≡ bareOutcome 1 c
-      → resultNow outcome area images ≡ execute c block given area images
+  pub execute-refused : (answer : Answer) → (length block ≡ 6 → ⊥) → answer ≡ bareAnswer 1
+      → resultNow (record { controller = c; answer = answer }) area images ≡ execute c block given area images
   unfolding execute
-  execute-refused outcome h e = rw (pick-false _ _ _ (ne-eqb _ _ h), e)
+  execute-refused answer h e = rw (pick-false _ _ _ (ne-eqb _ _ h), e)
 
-  pub execute-six : length block ≡ 6 → (b : Block) → b ≡ blockOf block → (result : Result) → result ≡ onImages b given c area images
-      → result ≡ execute c block given area images
-  unfolding execute
-  execute-six six b eb result h = rw (pick-true _ _ _ (eq-eqb _ _ six), ← eb) h
+  left-put : (drive : ℕ) (e : Effect) (drives : List Drive) (l : Lent) → l ≡ lentBy drive e area images
+      → drives ≡ set (c .drives) drive (l .ending .entry)
+      → resultNow (record { controller = record { buffer = l .buffer; drives = drives }; answer = l .ending .answer }) (l .area) (l .images)
+      ≡ left drive e c area images
+  unfolding left lentBy
+  left-put drive e drives l h ed = rw (ed, h)
+
+  pub execute-six : length block ≡ 6 → (b : Block) → b ≡ blockOf block → (entry : Drive) → entry ≡ getD (c .drives) (b .drive) blankDrive
+      → (l : Lent) → l ≡ obeyed b given entry (c .buffer) area images
+      → (drives : List Drive) → drives ≡ set (c .drives) (b .drive) (l .ending .entry)
+      → resultNow (record { controller = record { buffer = l .buffer; drives = drives }; answer = l .ending .answer }) (l .area) (l .images)
+      ≡ execute c block given area images
+  unfolding execute onDrive driveAt obeyed
+  execute-six six b eb entry ee l h drives ed =
+      rw (pick-true _ _ _ (eq-eqb _ _ six), ← eb, ← ee) (left-put (b .drive) _ drives l h ed)

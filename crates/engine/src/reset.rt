@@ -1,6 +1,6 @@
 // Reset, and a fresh controller.
 use drives::load::load;
-use endings::record::bare_answer;
+use endings::ending::bare_answer;
 use model::record::Controller;
 use model::record::Outcome;
 ghost use mathlib.Core.Path.{_≡_};

@@ -1,22 +1,39 @@
-// A command from its block to its outcome.
+// A command from its block to its outcome: the record and the images are put together here, and nowhere else.
 use checks::block::decode;
 use dispatch::obey::obey;
-use endings::record::Ending;
-use endings::record::bare_answer;
+use endings::ending::bare_answer;
 use model::block::Block;
 use model::record::Controller;
 use model::record::Drive;
+use model::record::Ending;
 use model::record::Outcome;
 ghost use mathlib.Core.Path.{_≡_};
 ghost use Prim.Native.Nat.{_<_};
-ghost use lib.ListN.{length};
-ghost use Rattle.model.specs.Engine.{obey, imagesOf, onImages, execute};
-ghost use Rattle.endings.specs.Leaves.{recordOf, leftWith};
-ghost use Rattle.engine.specs.Results.{resultNow};
+ghost use lib.ListN.{length, getD, set};
+ghost use Rattle.model.specs.Record.{blankDrive};
+ghost use Rattle.model.specs.Engine.{imagesOf, execute};
+ghost use Rattle.model.specs.Premises.{WellFormed};
+ghost use Rattle.engine.specs.Results.{lentNow, obeyed, resultNow};
+
+fn drive_at(drives: [Drive; 4], drive: u8) -> Drive
+    requires { ⌜ drive < 4 ⌝ }
+    ensures { λ r. ⌜ r ≡ getD drives drive blankDrive ⌝ }
+{
+    drives[drive as usize]
+}
+
+fn with_drive(drives: [Drive; 4], drive: u8, entry: Drive) -> [Drive; 4]
+    requires { ⌜ drive < 4 ⌝ }
+    ensures { λ r. ⌜ r ≡ set drives drive entry ⌝ }
+{
+    let mut other = drives;
+    other[drive as usize] = entry;
+    other
+}
 
 // A command on the image of the drive that it names.
 fn on_images(
-    drives: [Drive; 4],
+    entry: Drive,
     b: Block,
     buffer: &mut [u8],
     given: &[u8],
@@ -26,20 +43,22 @@ fn on_images(
     image2: &mut [u8],
     image3: &mut [u8],
 ) -> Ending
-    requires { ⌜ (b .drive < 4) × (b .address .0 < 2097152) × (length (now buffer) ≡ 512) ⌝ }
-    ensures { λ r. ⌜ resultNow (leftWith (now (buffer .exit)) r) (now (area .exit)) (imagesOf (now (image0 .exit)) (now (image1 .exit)) (now (image2 .exit)) (now (image3 .exit)))
-        ≡ onImages b (now (given .entry)) (recordOf (now (buffer .entry)) drives) (now (area .entry)) (imagesOf (now (image0 .entry)) (now (image1 .entry)) (now (image2 .entry)) (now (image3 .entry))) ⌝ }
+    requires { ⌜ WellFormed b × (length (now buffer) ≡ 512) ⌝ }
+    ensures { λ r. ⌜ lentNow r (now (buffer .exit)) (now (area .exit))
+        (imagesOf (now (image0 .exit)) (now (image1 .exit)) (now (image2 .exit)) (now (image3 .exit)))
+        ≡ obeyed b (now (given .entry)) entry (now (buffer .entry)) (now (area .entry))
+        (imagesOf (now (image0 .entry)) (now (image1 .entry)) (now (image2 .entry)) (now (image3 .entry))) ⌝ }
 {
     if b.drive == 0 {
-        return obey(drives, b, buffer, given, area, image0);
+        return obey(entry, b, buffer, given, area, image0);
     }
     if b.drive == 1 {
-        return obey(drives, b, buffer, given, area, image1);
+        return obey(entry, b, buffer, given, area, image1);
     }
     if b.drive == 2 {
-        return obey(drives, b, buffer, given, area, image2);
+        return obey(entry, b, buffer, given, area, image2);
     }
-    obey(drives, b, buffer, given, area, image3)
+    obey(entry, b, buffer, given, area, image3)
 }
 
 // A command: any block, given data, data area and images.
@@ -54,7 +73,8 @@ pub fn execute(
     image3: &mut [u8],
 ) -> Outcome
     ensures { λ r. ⌜ resultNow r (now (area .exit)) (imagesOf (now (image0 .exit)) (now (image1 .exit)) (now (image2 .exit)) (now (image3 .exit)))
-        ≡ execute c (now (block .entry)) (now (given .entry)) (now (area .entry)) (imagesOf (now (image0 .entry)) (now (image1 .entry)) (now (image2 .entry)) (now (image3 .entry))) ⌝ }
+        ≡ execute c (now (block .entry)) (now (given .entry)) (now (area .entry))
+        (imagesOf (now (image0 .entry)) (now (image1 .entry)) (now (image2 .entry)) (now (image3 .entry))) ⌝ }
 {
     if block.len() != 6 {
         return Outcome {
@@ -62,12 +82,13 @@ pub fn execute(
             answer: bare_answer(1),
         };
     }
-    // the record in its parts, put together once
     let drives = c.drives;
     let mut buffer = c.buffer;
+    let b = decode(block);
+    let drive = b.drive;
     let ending = on_images(
-        drives,
-        decode(block),
+        drive_at(drives, drive),
+        b,
         &mut buffer,
         given,
         area,
@@ -76,8 +97,9 @@ pub fn execute(
         image2,
         image3,
     );
-    let after = ending.drives;
+    let entry = ending.entry;
     let answer = ending.answer;
+    let after = with_drive(drives, drive, entry);
     Outcome {
         controller: Controller {
             buffer: buffer,

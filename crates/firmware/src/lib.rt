@@ -21,8 +21,10 @@ pub extern "C" fn lanthewg_execute(
     image2: &mut [u8],
     image3: &mut [u8],
 ) -> Answer
-    ensures { λ r. ⌜ resultNow (record { controller = now (c .exit); answer = r }) (now (area .exit)) (imagesOf (now (image0 .exit)) (now (image1 .exit)) (now (image2 .exit)) (now (image3 .exit)))
-        ≡ execute (now (c .entry)) (now (block .entry)) (now (given .entry)) (now (area .entry)) (imagesOf (now (image0 .entry)) (now (image1 .entry)) (now (image2 .entry)) (now (image3 .entry))) ⌝ }
+    ensures { λ r. ⌜ resultNow (record { controller = now (c .exit); answer = r }) (now (area .exit))
+        (imagesOf (now (image0 .exit)) (now (image1 .exit)) (now (image2 .exit)) (now (image3 .exit)))
+        ≡ execute (now (c .entry)) (now (block .entry)) (now (given .entry)) (now (area .entry))
+        (imagesOf (now (image0 .entry)) (now (image1 .entry)) (now (image2 .entry)) (now (image3 .entry))) ⌝ }
 {
     let o = execute(*c, block, given, area, image0, image1, image2, image3);
     *c = o.controller;
@@ -38,7 +40,8 @@ pub extern "C" fn lanthewg_reset(
     image2: &[u8],
     image3: &[u8],
 ) -> Answer
-    ensures { λ r. ⌜ record { controller = now (c .exit); answer = r } ≡ resetOf (imagesOf (now (image0 .entry)) (now (image1 .entry)) (now (image2 .entry)) (now (image3 .entry))) ⌝ }
+    ensures { λ r. ⌜ record { controller = now (c .exit); answer = r }
+        ≡ resetOf (imagesOf (now (image0 .entry)) (now (image1 .entry)) (now (image2 .entry)) (now (image3 .entry))) ⌝ }
 {
     let o = reset(image0, image1, image2, image3);
     *c = o.controller;

@@ -1,7 +1,7 @@
 -- How Check Track ends.
-use mathlib.Core.Path.{_≡_, refl, sym, ap, _∙_}
+use mathlib.Core.Path.{_≡_, sym, ap, _∙_}
 use mathlib.Core.Bool.{Bool, true, false, not}
-use mathlib.Core.List.{List, _++_}
+use mathlib.Core.List.{List, [], _++_}
 use Prim.Native.Nat.{ℕ, _-_, _<_}
 use native.Mathlib.Omega.{arith}
 use lib.ListN.{take, replicate}
@@ -17,13 +17,12 @@ use Rattle.track.specs.declared.find.Where.the-variants.{On, Off}
 use Rattle.track.specs.Find.{whereBy, whereOf}
 use Rattle.formatter.specs.Check.{checkedOn, checkCode}
 use Rattle.model.specs.declared.block.Block.{Block}
-use Rattle.model.specs.declared.record.Controller.{Controller}
-use Rattle.model.specs.declared.record.Outcome.{Outcome}
-use Rattle.model.specs.Record.{failedOutcome, goodOutcome}
+use Rattle.model.specs.declared.record.Drive.{Drive}
+use Rattle.model.specs.declared.record.Ending.{Ending}
+use Rattle.model.specs.declared.verdict.Verdict.the-variants.{Faulty}
+use Rattle.model.specs.Record.{failed, good, unless}
 use Rattle.model.specs.Commands.{checkTests, checkTrack}
 use Rattle.model.proofs.engine.Judged.{judged-hit, judged-on, judged-none}
-use Rattle.endings.specs.Leaves.{silent}
-use Rattle.endings.proofs.Verdicts.{ends-faulty, ends-well}
 use Rattle.formats.proofs.Makings.{layout-lent}
 
 -- ---- every code of Check Track is below 80h
@@ -58,17 +57,17 @@ unfolding checkCode whereOf
 check-below p t map image code e = rw e (checked-low p t map image _ (where-low _ _ _ _))
 
 -- ---- the two ends
-module _ (b : Block) (p : Params) (c : Controller) (image map : List ℕ) (outcome : Outcome) (t : Track) (code : ℕ) (h : b .extra < p .sectors)
+module _ (b : Block) (p : Params) (entry : Drive) (image map : List ℕ) (r : Ending) (t : Track) (code : ℕ) (h : b .extra < p .sectors)
     (em : map ≡ layoutOf (p .sectors) (b .extra) ++ replicate (32 - p .sectors) (p .sectors)) (et : t ≡ trackOf p (b .address))
     (ec : code ≡ checkCode p t (take (p .sectors - 0) map) image) where
   is-code : checkCode p (trackOf p (b .address)) (layoutOf (p .sectors) (b .extra)) image ≡ code
   is-code = sym (ec ∙ rw (et, layout-lent (p .sectors) (b .extra) map h em))
 
-  pub check-fails : (code ≡ 0 → ⊥) → outcome ≡ failedOutcome (b .drive) code (b .address) 0 0 c → silent outcome image ≡ checkTrack b p c image
-  unfolding checkTrack checkTests
-  check-fails k eo = rw is-code (ends-faulty b c image _ outcome _ code (b .address) (judged-hit _ _ _ _ _ (ap not (ne-eqb _ _ k))) eo)
+  pub check-fails : (code ≡ 0 → ⊥) → r ≡ failed (b .drive) (b .drive) code (b .address) 0 0 entry → r ≡ checkTrack b p entry image
+  unfolding checkTrack checkTests unless
+  check-fails k er = rw (is-code, judged-hit _ (Faulty code (b .address)) [] (ap not (ne-eqb _ _ k))) er
 
-  pub check-well : code ≡ 0 → outcome ≡ goodOutcome (b .drive) 0 0 c → silent outcome image ≡ checkTrack b p c image
-  unfolding checkTrack checkTests
-  check-well k eo =
-      rw is-code (ends-well b c image _ outcome c image image (judged-on _ _ _ _ _ (ap not (eq-eqb _ _ k)) ∙ judged-none _) eo refl)
+  pub check-well : code ≡ 0 → r ≡ good (b .drive) 0 0 entry → r ≡ checkTrack b p entry image
+  unfolding checkTrack checkTests unless
+  check-well k er =
+      rw (is-code, judged-on _ (Faulty code (b .address)) [] (ap not (eq-eqb _ _ k)), judged-none) er

@@ -21,7 +21,7 @@ use Rattle.hex.specs.declared.line.Line.{Line}
 use Rattle.hex.specs.Line.{lineNow, wholeOf}
 use Rattle.lines.specs.Said.{answerText, badText, Said, saidNow, resultSaid, frameSaid, resetSaid, isReset, lineSaid}
 use Rattle.lines.specs.declared.Told.{Told}
-use Rattle.lines.proofs.Texts.{told-text}
+use Rattle.lines.proofs.AnswerTexts.{told-text}
 
 -- ---- FF alone
 pub reset-longer : (frame : List ℕ) → (length frame ≡ 1 → ⊥) → false ≡ isReset frame

@@ -1,2 +1,2 @@
-pub mod Texts
+pub mod AnswerTexts
 pub mod Frames

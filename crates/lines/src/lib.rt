@@ -27,7 +27,8 @@ pub struct Told {
 // Number, status, message and the data handed over, as digits at the front of the text, then a line feed.
 fn tell(text: &mut [u8], answer: Answer, handed: &[u8]) -> usize
     requires { ⌜ 7 + 2 * length (now handed) ≤ length (now text) ⌝ }
-    ensures { λ r. ⌜ (r ≡ 7 + 2 * length (now (handed .entry))) × (now (text .exit) ≡ splice 0 (answerText answer (now (handed .entry))) (now (text .entry))) ⌝ }
+    ensures { λ r. ⌜ (r ≡ 7 + 2 * length (now (handed .entry)))
+        × (now (text .exit) ≡ splice 0 (answerText answer (now (handed .entry))) (now (text .entry))) ⌝ }
 {
     let head = [answer.number, answer.status, answer.message];
     encode(text, 0, &head);
@@ -66,7 +67,9 @@ fn answer_frame(
 ) -> Told
     requires { ⌜ 7 + 2 * length (now area) ≤ length (now text) ⌝ }
     ensures { λ r. ⌜ r .length ≤ length (now (text .exit)) ⌝ }
-    ensures { λ r. ⌜ saidNow r (now (text .exit)) (imagesOf (now (image0 .exit)) (now (image1 .exit)) (now (image2 .exit)) (now (image3 .exit))) ≡ frameSaid c (now (frame .entry)) (now (area .entry)) (imagesOf (now (image0 .entry)) (now (image1 .entry)) (now (image2 .entry)) (now (image3 .entry))) ⌝ }
+    ensures { λ r. ⌜ saidNow r (now (text .exit)) (imagesOf (now (image0 .exit)) (now (image1 .exit)) (now (image2 .exit)) (now (image3 .exit)))
+        ≡ frameSaid c (now (frame .entry)) (now (area .entry))
+        (imagesOf (now (image0 .entry)) (now (image1 .entry)) (now (image2 .entry)) (now (image3 .entry))) ⌝ }
 {
     let end = frame.len();
     let n = least(BLOCK_LENGTH, end);
@@ -93,7 +96,8 @@ fn answer_frame(
 fn answer_reset(image0: &[u8], image1: &[u8], image2: &[u8], image3: &[u8], text: &mut [u8]) -> Told
     requires { ⌜ 7 ≤ length (now text) ⌝ }
     ensures { λ r. ⌜ r .length ≤ length (now (text .exit)) ⌝ }
-    ensures { λ r. ⌜ saidNow r (now (text .exit)) (imagesOf (now (image0 .entry)) (now (image1 .entry)) (now (image2 .entry)) (now (image3 .entry))) ≡ resetSaid (imagesOf (now (image0 .entry)) (now (image1 .entry)) (now (image2 .entry)) (now (image3 .entry))) ⌝ }
+    ensures { λ r. ⌜ saidNow r (now (text .exit)) (imagesOf (now (image0 .entry)) (now (image1 .entry)) (now (image2 .entry)) (now (image3 .entry)))
+        ≡ resetSaid (imagesOf (now (image0 .entry)) (now (image1 .entry)) (now (image2 .entry)) (now (image3 .entry))) ⌝ }
 {
     let outcome = reset(image0, image1, image2, image3);
     let answer = outcome.answer;
@@ -133,7 +137,9 @@ pub fn answer_line(
 ) -> Told
     requires { ⌜ (7 + 2 * length (now area) ≤ length (now text)) × (line .count ≤ length (now bytes)) ⌝ }
     ensures { λ r. ⌜ r .length ≤ length (now (text .exit)) ⌝ }
-    ensures { λ r. ⌜ saidNow r (now (text .exit)) (imagesOf (now (image0 .exit)) (now (image1 .exit)) (now (image2 .exit)) (now (image3 .exit))) ≡ lineSaid c (wholeOf (lineNow line (now (bytes .entry)))) (now (area .entry)) (imagesOf (now (image0 .entry)) (now (image1 .entry)) (now (image2 .entry)) (now (image3 .entry))) ⌝ }
+    ensures { λ r. ⌜ saidNow r (now (text .exit)) (imagesOf (now (image0 .exit)) (now (image1 .exit)) (now (image2 .exit)) (now (image3 .exit)))
+        ≡ lineSaid c (wholeOf (lineNow line (now (bytes .entry)))) (now (area .entry))
+        (imagesOf (now (image0 .entry)) (now (image1 .entry)) (now (image2 .entry)) (now (image3 .entry))) ⌝ }
 {
     let count = line.count;
     if line.bad {

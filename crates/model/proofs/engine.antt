@@ -1,7 +1,9 @@
 -- Laws of the engine's definition, no machine in sight.
 pub mod Judged
 pub mod Checked
+pub mod Known
 pub mod Outside
 pub mod Written
-pub mod Endings
+pub mod Leaving
 pub mod Beyond
+pub mod Assembled

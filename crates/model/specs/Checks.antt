@@ -1,80 +1,79 @@
 -- Document 01, 'Order of checks', and rows 2 and 3 of the table of returned values: a function of a small view of the drive.
 use Prim.Native.Nat.{ℕ, _+_, _-_, _*_, _%_}
-use mathlib.Core.Bool.{Bool, not, _&&_, _||_}
+use mathlib.Core.Bool.{Bool, true, false, not, _&&_, _||_}
 use mathlib.Core.List.{List, [], _∷_}
 use lib.Dec.{leb, ltb, eqb}
 use Rattle.base.specs.Pick.{pick}
 use Rattle.geometry.specs.declared.params.Lba.{Lba}
-use Rattle.geometry.specs.declared.medium.Medium.{Medium}
+use Rattle.geometry.specs.declared.params.Params.{Params}
 use Rattle.geometry.specs.declared.config.Setting.{Setting}
 use Rattle.geometry.specs.declared.config.Setting.the-variants.{Valid, Invalid}
 use Rattle.geometry.specs.Params.{trackOf, lastAddress}
 use Rattle.geometry.specs.Medium.{isFloppy}
 use Rattle.geometry.specs.Config.{isValid}
 use Rattle.model.specs.declared.block.Block.{Block}
-use Rattle.model.specs.declared.table.Entry.{Entry}
+use Rattle.model.specs.declared.table.Command.{Command}
+use Rattle.model.specs.declared.table.Command.the-variants.{Free, OnDisk, Unknown}
 use Rattle.model.specs.declared.table.Data.{Data}
 use Rattle.model.specs.declared.table.Data.the-variants.{Nothing, Sense, Alternate, Configuration, Buffer, Sectors}
+use Rattle.model.specs.declared.verdict.View.{View}
+use Rattle.model.specs.declared.verdict.Hits.{Hits}
 use Rattle.model.specs.declared.verdict.Verdict.{Verdict}
 use Rattle.model.specs.declared.verdict.Verdict.the-variants.{Refused, Faulty, Passed}
 use Rattle.model.specs.Block.{countOf}
-use Rattle.model.specs.Table.{entryOf}
+use Rattle.model.specs.Table.{HardOnly, Control, FillBit, Present, Parameters, Interleave, Address, Counted, Settled, SparedWhole, TableRow, applies, rowFor}
 
--- A test, the code that it gives, and the address that goes with it.
+-- A test, and the verdict where it hits.
 pub record Test : Type 0 where
   pub hit : Bool
-  pub code : ℕ
-  pub at : Lba
+  pub verdict : Verdict
 
+-- A code, with the address that goes with it; or a refusal.
 abbrev pub on : Bool → (code : ℕ) → Lba → Test
-on hit code at = record { hit = hit; code = code; at = at }
+on hit code at = record { hit = hit; verdict = Faulty code at }
 
--- The first test that hits decides; else what comes after them.
-unfoldable pub judged : List Test → Verdict → Verdict
-judged [] after = after
-judged (test ∷ tests) after = pick (test .hit) (Faulty (test .code) (test .at)) (judged tests after)
+abbrev pub refuses : Bool → (number : ℕ) → Test
+refuses hit number = record { hit = hit; verdict = Refused number }
 
--- What the checks see of the drive named.
-pub record View : Type 0 where
-  pub medium : Medium
-  pub present : Bool
-  pub setting : Setting
-  pub pending : Bool
+-- The first test that hits decides.
+unfoldable pub judged : List Test → Verdict
+judged [] = Passed
+judged (test ∷ tests) = pick (test .hit) (test .verdict) (judged tests)
 
 -- An image under 16 bytes is an absent drive.
 unfoldable pub presentWith : (image : ℕ) → Bool
 presentWith image = leb 16 image
 
+-- ---- What each check asks
+unfoldable pub isUnknown : Command → Bool
+isUnknown (Free command) = false
+isUnknown (OnDisk command) = false
+isUnknown Unknown = true
+
 -- Only control bit 7, without effect, and 5 where named are defined.
-unfoldable pub controlWrong : Entry → (control : ℕ) → Bool
-controlWrong e control = not (eqb (control % 128) 0 || (e .fill && eqb (control % 128) 32))
+unfoldable pub controlWrong : (named : Bool) → (control : ℕ) → Bool
+controlWrong named control = not (eqb (control % 128) 0 || (named && eqb (control % 128) 32))
 
--- A command that the drive lacks: those for hard disks only, on a floppy (request E3).
-unfoldable pub lacks : Medium → Entry → Bool
-lacks medium e = e .hard && isFloppy medium
+-- Byte 1 bit 7 in any command, a command that only hard disks have, or an undefined control bit.
+unfoldable pub blockWrong : TableRow → Block → View → Bool
+blockWrong e b v = b .top || ((applies HardOnly e && isFloppy (v .medium)) || (applies Control e && controlWrong (applies FillBit e) (b .control)))
 
--- The sectors from the address on that must be on the drive.
-unfoldable pub reach : Entry → Block → ℕ
-reach e b = pick (e .counted) (countOf b) 1
+-- A question about the parameters in force: without any, 0Ah has come before it.
+unfoldable pub withParams : Setting → (Params → Bool) → Bool
+withParams Invalid ask = false
+withParams (Valid p) ask = ask p
 
--- What needs parameters: interleave, 22h; address, or last address of 08/0Ah, past the end, 21h; pending, 16h.
-unfoldable pub testsWith : Entry → Block → (pending : Bool) → Setting → List Test
-testsWith e b pending Invalid = []
-testsWith e b pending (Valid p) =
-    on (e .interleave && (ltb (b .extra) 1 || ltb (p .sectors - 1) (b .extra))) 0x22 (b .address)
-    ∷ on (e .address && ltb (lastAddress p .0) (b .address .0 + reach e b - 1)) 0x21 (b .address)
-    ∷ on (pending && e .settled && not (e .whole && eqb (trackOf p (b .address) .0) 0)) 0x16 (b .address)
-    ∷ []
+-- An interleave is 1 to n - 1.
+unfoldable pub interleaveWrong : (f : ℕ) → Params → Bool
+interleaveWrong f p = ltb f 1 || ltb (p .sectors - 1) f
 
--- 20h; byte 1 bit 7, a command that the drive lacks, or an undefined control bit, 22h; absent, 04h; no parameters, 0Ah; then
--- those above.
-unfoldable pub tests : Entry → Block → View → List Test
-tests e b v =
-    on (not (e .known)) 0x20 (b .address)
-    ∷ on (b .top || (lacks (v .medium) e || (e .address && controlWrong e (b .control)))) 0x22 (b .address)
-    ∷ on (e .drive && not (v .present)) 0x04 (b .address)
-    ∷ on (e .parameters && not (isValid (v .setting))) 0x0A (b .address)
-    ∷ testsWith e b (v .pending) (v .setting)
+-- The address, or the last of `reach` addresses, is past the end.
+unfoldable pub pastEnd : Lba → (reach : ℕ) → Params → Bool
+pastEnd a reach p = ltb (lastAddress p .0) (a .0 + reach - 1)
+
+-- Pending does not spare the command: it spares a Format Drive whose s is 0.
+unfoldable pub notSpared : (whole : Bool) → Lba → Params → Bool
+notSpared whole a p = not (whole && eqb (trackOf p a .0) 0)
 
 unfoldable pub sizeIn : Setting → ℕ
 sizeIn Invalid = 0
@@ -89,13 +88,40 @@ bytesOf Configuration b setting = 10
 bytesOf Buffer b setting = 512
 bytesOf Sectors b setting = countOf b * sizeIn setting
 
--- Number 2: data given shorter than taken. Number 3: data area shorter than handed over.
-unfoldable pub lengthsWith : Entry → Block → Setting → (given area : ℕ) → Verdict
-lengthsWith e b setting given area =
-    pick (ltb given (bytesOf (e .takes) b setting)) (Refused 2)
-    (pick (ltb area (bytesOf (e .gives) b setting)) (Refused 3)
-    Passed)
+-- The sectors from the address on that must be on the drive.
+unfoldable pub reachOf : (counted : Bool) → Block → ℕ
+reachOf counted b = pick counted (countOf b) 1
+
+-- ---- The checks that hit, on one drive. Data given shorter than taken is number 2, a data area shorter than handed over 3.
+unfoldable pub hitsOf : TableRow → Block → (reach : ℕ) → View → (given area : ℕ) → Hits
+hitsOf e b reach v given area = record {
+  unknown = isUnknown (e .command);
+  wrong = blockWrong e b v;
+  absent = applies Present e && not (v .present);
+  unset = applies Parameters e && not (isValid (v .setting));
+  interleave = applies Interleave e && withParams (v .setting) (interleaveWrong (b .extra));
+  past = applies Address e && withParams (v .setting) (pastEnd (b .address) reach);
+  pending = v .pending && (applies Settled e && withParams (v .setting) (notSpared (applies SparedWhole e) (b .address)));
+  short = ltb given (bytesOf (e .takes) b (v .setting));
+  small = ltb area (bytesOf (e .gives) b (v .setting));
+}
+
+-- ---- The order: 20h; 22h; 04h; 0Ah; interleave, 22h; 21h; 16h; numbers 2, 3.
+unfoldable pub inOrder : Lba → Hits → List Test
+inOrder a hits =
+    on (hits .unknown) 0x20 a
+    ∷ on (hits .wrong) 0x22 a
+    ∷ on (hits .absent) 0x04 a
+    ∷ on (hits .unset) 0x0A a
+    ∷ on (hits .interleave) 0x22 a
+    ∷ on (hits .past) 0x21 a
+    ∷ on (hits .pending) 0x16 a
+    ∷ refuses (hits .short) 2
+    ∷ refuses (hits .small) 3
+    ∷ []
 
 -- A command of a block of six bytes, up to its own checks.
 unfoldable pub judge : Block → View → (given area : ℕ) → Verdict
-judge b v given area = judged (tests (entryOf (b .opcode)) b v) (lengthsWith (entryOf (b .opcode)) b (v .setting) given area)
+judge b v given area =
+    let e = rowFor (b .opcode) in
+    judged (inOrder (b .address) (hitsOf e b (reachOf (applies Counted e) b) v given area))

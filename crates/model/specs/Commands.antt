@@ -1,4 +1,4 @@
--- Document 01, 'Commands': each command's own checks, and what it does to the controller and the image of its drive.
+-- Document 01, 'Commands': what each leaves of its drive's entry, the buffer and its drive's image, once the order of checks has let it pass.
 use Prim.Native.Nat.{ℕ, _+_, _-_}
 use mathlib.Core.Bool.{Bool, true, false, not, _&&_, _||_}
 use mathlib.Core.List.{List, [], _∷_, _++_}
@@ -28,21 +28,22 @@ use Rattle.formatter.specs.Check.{checkCode}
 use Rattle.sectors.specs.Transfer.{Transfer, begun, reading, writing}
 use Rattle.model.specs.declared.block.Block.{Block}
 use Rattle.model.specs.declared.table.Command.{Command}
-use Rattle.model.specs.declared.table.Command.the-variants.{TestReady, Recalibrate, RequestSense, FormatDrive, CheckTrack, FormatTrack, FormatBadTrack, Read, Write, Seek, AssignAlternate, WriteBuffer, ReadBuffer, Initialize, Unknown}
+use Rattle.model.specs.declared.table.Command.the-variants.{Free, OnDisk, Unknown}
+use Rattle.model.specs.declared.table.FreeCommand.{FreeCommand}
+use Rattle.model.specs.declared.table.FreeCommand.the-variants.{RequestSense, WriteBuffer, ReadBuffer, Initialize}
+use Rattle.model.specs.declared.table.DiskCommand.{DiskCommand}
+use Rattle.model.specs.declared.table.DiskCommand.the-variants.{ArmWork, TrackWork, SectorWork}
+use Rattle.model.specs.declared.table.ArmCommand.{ArmCommand}
+use Rattle.model.specs.declared.table.ArmCommand.the-variants.{TestReady, Recalibrate, Seek}
+use Rattle.model.specs.declared.table.TrackCommand.{TrackCommand}
+use Rattle.model.specs.declared.table.TrackCommand.the-variants.{FormatDrive, CheckTrack, FormatTrack, FormatBadTrack, AssignAlternate}
+use Rattle.model.specs.declared.table.SectorCommand.{SectorCommand}
+use Rattle.model.specs.declared.table.SectorCommand.the-variants.{Read, Write}
 use Rattle.model.specs.declared.record.Drive.{Drive}
-use Rattle.model.specs.declared.record.Controller.{Controller}
-use Rattle.model.specs.declared.verdict.Verdict.the-variants.{Passed}
+use Rattle.model.specs.declared.record.Ending.{Ending}
 use Rattle.model.specs.Block.{countOf, fromBuffer, alternateOf}
 use Rattle.model.specs.Checks.{Test, on, judged}
-use Rattle.model.specs.Record.{driveAt, withDrive, withBuffer, Effect, good, failed, unless}
-
--- ---- 03 Request Sense: hands over 4 bytes, leaves the sense as it is.
-unfoldable pub requestSense : Block → Controller → (image : List ℕ) → Effect
-requestSense b c image = record {
-  outcome = record { controller = c; answer = good b 0 (driveAt c (b .drive) .sense) c image .outcome .answer };
-  handed = driveAt c (b .drive) .sense;
-  image = image;
-}
+use Rattle.model.specs.Record.{goodAnswer, good, failed, unless, Effect, effect, Made, made}
 
 -- ---- What formatting fills the data with: on a floppy E5h (request E3); on a hard disk 6Ch, or with control bit 5 the buffer's
 -- first D bytes.
@@ -68,46 +69,49 @@ driveFormatted b p config fill image =
     splice 0 (config ++ labelRest)
     (soundFrom p (layoutOf (p .sectors) (b .extra)) fill (trackCount p - trackOf p (b .address) .0) (trackOf p (b .address) .0) image)
 
-unfoldable pub settled : Drive → Drive
-settled entry = record { sense = entry .sense; config = entry .config; known = entry .known; pending = false }
+unfoldable pub pendingEnded : Drive → Drive
+pendingEnded entry = record { sense = entry .sense; config = entry .config; known = entry .known; pending = false }
 
-unfoldable pub formatDrive : Block → Params → Controller → (image : List ℕ) → Effect
-formatDrive b p c image =
-    unless (judged (on (pairSplit p (trackOf p (b .address)) image) 0x1D (b .address) ∷ []) Passed) b c image
-    (good b 0 [] (withDrive (b .drive) (settled (driveAt c (b .drive))) c)
-    (driveFormatted b p (driveAt c (b .drive) .config) (fillOf b p (c .buffer)) image))
+unfoldable pub formatDrive : Block → Params → (buffer : List ℕ) → Drive → (image : List ℕ) → Made
+formatDrive b p buffer entry image =
+    unless (judged (on (pairSplit p (trackOf p (b .address)) image) 0x1D (b .address) ∷ [])) (b .drive) entry (λ e. made e image)
+    (made (good (b .drive) 0 0 (pendingEnded entry)) (driveFormatted b p (entry .config) (fillOf b p buffer) image))
 
 -- ---- 05 Check Track: slot 0 as for finding a sector; then every slot's ID bytes; else 1Ah.
 unfoldable pub checkTests : (code : ℕ) → Lba → List Test
 checkTests code a = on (not (eqb code 0)) code a ∷ []
 
-unfoldable pub checkTrack : Block → Params → Controller → (image : List ℕ) → Effect
-checkTrack b p c image =
-    unless (judged (checkTests (checkCode p (trackOf p (b .address)) (layoutOf (p .sectors) (b .extra)) image) (b .address)) Passed) b c image
-    (good b 0 [] c image)
+unfoldable pub checkTrack : Block → Params → Drive → (image : List ℕ) → Ending
+checkTrack b p entry image =
+    unless (judged (checkTests (checkCode p (trackOf p (b .address)) (layoutOf (p .sectors) (b .extra)) image) (b .address))) (b .drive) entry
+    (λ e. e) (good (b .drive) 0 0 entry)
 
 -- ---- 06 Format Track, 07 Format Bad Track: the track becomes sound or bad. Moved: 1Dh. Taken: 1Ch.
 unfoldable pub aloneTests : State → Lba → List Test
 aloneTests state a = on (isMoved state) 0x1D a ∷ on (isTaken state) 0x1C a ∷ []
 
-unfoldable pub formatTrack : Block → Params → State → (fill : List ℕ) → Controller → (image : List ℕ) → Effect
-formatTrack b p state fill c image =
-    unless (judged (aloneTests (stateOf p (trackOf p (b .address)) image) (b .address)) Passed) b c image
-    (good b 0 [] c (madeAt b p (trackOf p (b .address)) state fill image))
+unfoldable pub formatTrack : Block → Params → State → (fill : List ℕ) → Drive → (image : List ℕ) → Made
+formatTrack b p state fill entry image =
+    unless (judged (aloneTests (stateOf p (trackOf p (b .address)) image) (b .address))) (b .drive) entry (λ e. made e image)
+    (made (good (b .drive) 0 0 entry) (madeAt b p (trackOf p (b .address)) state fill image))
 
 -- ---- 08 Read, 0Ah Write
--- Each sector read or written is left in the buffer's first D bytes. A failing sector's address goes with its code.
-unfoldable pub transferred : Block → Controller → Transfer → Effect
-transferred b c x =
-    pick (eqb (x .code) 0)
-    (good b (x .done) (x .handed) (withBuffer (splice 0 (x .last) (c .buffer)) c) (x .image))
-    (failed b (x .code) (record { 0 = b .address .0 + x .done }) (x .done) (x .handed) (withBuffer (splice 0 (x .last) (c .buffer)) c) (x .image))
+-- Good, or the failing sector's code with its own address; the sectors done are counted either way.
+unfoldable pub transferEnding : Block → (sectors code bytes : ℕ) → Drive → Ending
+transferEnding b sectors code bytes entry =
+    pick (eqb code 0) (good (b .drive) sectors bytes entry)
+    (failed (b .drive) (b .drive) code (record { 0 = b .address .0 + sectors }) sectors bytes entry)
 
-unfoldable pub read : Block → Params → Controller → (image : List ℕ) → Effect
-read b p c image = transferred b c (reading p (countOf b) (b .address .0) (begun image))
+-- Each sector read or written is left in the buffer's first D bytes.
+unfoldable pub transferred : Block → Drive → (buffer : List ℕ) → Transfer → Effect
+transferred b entry buffer x =
+    effect (transferEnding b (x .done) (x .code) (length (x .handed)) entry) (splice 0 (x .last) buffer) (x .handed) (x .image)
 
-unfoldable pub write : Block → Params → (given : List ℕ) → Controller → (image : List ℕ) → Effect
-write b p given c image = transferred b c (writing p (countOf b) (b .address .0) given (begun image))
+unfoldable pub read : Block → Params → Drive → (buffer image : List ℕ) → Effect
+read b p entry buffer image = transferred b entry buffer (reading p (countOf b) (b .address .0) (begun image))
+
+unfoldable pub write : Block → Params → (given : List ℕ) → Drive → (buffer image : List ℕ) → Effect
+write b p given entry buffer image = transferred b entry buffer (writing p (countOf b) (b .address .0) given (begun image))
 
 -- ---- 0Eh Assign Alternate. A is the track of the block's address a, B the track of the address `alternate` given.
 -- First byte above 1Fh, 22h; B out of range, 21h; A moved, 1Dh; A taken, 1Ch; B = A, 22h; B taken, 1Dh; B moved or bad, 1Fh.
@@ -126,48 +130,67 @@ assignTests p first a alternate stateA stateB =
 unfoldable pub assigned : Block → Params → (A B : Track) → (fill image : List ℕ) → List ℕ
 assigned b p A B fill image = madeAt b p B (Taken A) fill (madeAt b p A (Moved B) (plainFill (mediumOf (b .drive)) p) image)
 
-unfoldable pub assignAlternate : Block → Params → (given : List ℕ) → Controller → (image : List ℕ) → Effect
-assignAlternate b p given c image =
+unfoldable pub assignAlternate : Block → Params → (buffer given : List ℕ) → Drive → (image : List ℕ) → Made
+assignAlternate b p buffer given entry image =
     unless
     (judged
     (assignTests p (byte given 0) (b .address) (alternateOf given)
-    (stateOf p (trackOf p (b .address)) image) (stateOf p (trackOf p (alternateOf given)) image))
-    Passed)
-    b c image
-    (good b 0 [] c (assigned b p (trackOf p (b .address)) (trackOf p (alternateOf given)) (fillOf b p (c .buffer)) image))
+    (stateOf p (trackOf p (b .address)) image) (stateOf p (trackOf p (alternateOf given)) image)))
+    (b .drive) entry (λ e. made e image)
+    (made (good (b .drive) 0 0 entry) (assigned b p (trackOf p (b .address)) (trackOf p (alternateOf given)) (fillOf b p buffer) image))
 
 -- ---- 11h Initialize: takes the 10 configuration bytes; not valid, 22h. They come into force, not pending where they are a
 -- valid label's (request E1), else pending. The image is untouched.
 unfoldable pub initialized : (config : List ℕ) → (pending : Bool) → Drive → Drive
 initialized config pending entry = record { sense = entry .sense; config = config; known = true; pending = pending }
 
-unfoldable pub initializedBy : Setting → Block → (config : List ℕ) → Controller → (image : List ℕ) → Effect
-initializedBy Invalid b config c image = failed b 0x22 (b .address) 0 [] c image
-initializedBy (Valid p) b config c image =
-    good b 0 [] (withDrive (b .drive) (initialized config (not (labelHolds (mediumOf (b .drive)) image config)) (driveAt c (b .drive))) c) image
+unfoldable pub initializedBy : Setting → Block → (config : List ℕ) → Drive → (image : List ℕ) → Ending
+initializedBy Invalid b config entry image = failed (b .drive) (b .drive) 0x22 (b .address) 0 0 entry
+initializedBy (Valid p) b config entry image =
+    good (b .drive) 0 0 (initialized config (not (labelHolds (mediumOf (b .drive)) image config)) entry)
 
-unfoldable pub initialize : Block → (given : List ℕ) → Controller → (image : List ℕ) → Effect
-initialize b given c image = initializedBy (settingOf (mediumOf (b .drive)) (part 0 10 given) (length image)) b (part 0 10 given) c image
+unfoldable pub initialize : Block → (given : List ℕ) → Drive → (image : List ℕ) → Ending
+initialize b given entry image = initializedBy (settingOf (mediumOf (b .drive)) (part 0 10 given) (length image)) b (part 0 10 given) entry image
 
--- ---- A command that needs parameters; without them 0Ah, which has been tested for before.
-unfoldable pub onDisk : Setting → Block → Controller → (image : List ℕ) → (Params → Effect) → Effect
-onDisk Invalid b c image run = failed b 0x0A (b .address) 0 [] c image
-onDisk (Valid p) b c image run = run p
+-- ---- The commands by their groups, once their checks have passed, up to their own
+-- 03 hands over 4 bytes and leaves the sense as it is; 0Fh takes 512 bytes, 10h hands over 512.
+unfoldable pub doFree : Block → (given : List ℕ) → Drive → (buffer image : List ℕ) → FreeCommand → Effect
+doFree b given entry buffer image RequestSense =
+    effect (record { entry = entry; answer = goodAnswer (b .drive) 0 (length (entry .sense)) }) buffer (entry .sense) image
+doFree b given entry buffer image WriteBuffer = effect (good (b .drive) 0 0 entry) (part 0 512 given) [] image
+doFree b given entry buffer image ReadBuffer = effect (good (b .drive) 0 (length buffer) entry) buffer buffer image
+doFree b given entry buffer image Initialize = effect (initialize b given entry image) buffer [] image
 
--- ---- A command whose checks have passed, up to its own. 00, 01 and 0Bh are checks only.
-unfoldable pub carryOut : Block → Setting → (given : List ℕ) → Controller → (image : List ℕ) → Command → Effect
-carryOut b setting given c image TestReady = good b 0 [] c image
-carryOut b setting given c image Recalibrate = good b 0 [] c image
-carryOut b setting given c image RequestSense = requestSense b c image
-carryOut b setting given c image FormatDrive = onDisk setting b c image (λ p. formatDrive b p c image)
-carryOut b setting given c image CheckTrack = onDisk setting b c image (λ p. checkTrack b p c image)
-carryOut b setting given c image FormatTrack = onDisk setting b c image (λ p. formatTrack b p Sound (fillOf b p (c .buffer)) c image)
-carryOut b setting given c image FormatBadTrack = onDisk setting b c image (λ p. formatTrack b p Bad (plainFill (mediumOf (b .drive)) p) c image)
-carryOut b setting given c image Read = onDisk setting b c image (λ p. read b p c image)
-carryOut b setting given c image Write = onDisk setting b c image (λ p. write b p given c image)
-carryOut b setting given c image Seek = good b 0 [] c image
-carryOut b setting given c image AssignAlternate = onDisk setting b c image (λ p. assignAlternate b p given c image)
-carryOut b setting given c image WriteBuffer = good b 0 [] (withBuffer (part 0 512 given) c) image
-carryOut b setting given c image ReadBuffer = good b 0 (c .buffer) c image
-carryOut b setting given c image Initialize = initialize b given c image
-carryOut b setting given c image Unknown = failed b 0x20 (b .address) 0 [] c image
+-- 00 Test Ready, 01 Recalibrate, 0Bh Seek: checks only.
+unfoldable pub doArm : Block → Drive → ArmCommand → Ending
+doArm b entry TestReady = good (b .drive) 0 0 entry
+doArm b entry Recalibrate = good (b .drive) 0 0 entry
+doArm b entry Seek = good (b .drive) 0 0 entry
+
+unfoldable pub doTrack : Block → Params → (buffer given : List ℕ) → Drive → (image : List ℕ) → TrackCommand → Made
+doTrack b p buffer given entry image FormatDrive = formatDrive b p buffer entry image
+doTrack b p buffer given entry image CheckTrack = made (checkTrack b p entry image) image
+doTrack b p buffer given entry image FormatTrack = formatTrack b p Sound (fillOf b p buffer) entry image
+doTrack b p buffer given entry image FormatBadTrack = formatTrack b p Bad (plainFill (mediumOf (b .drive)) p) entry image
+doTrack b p buffer given entry image AssignAlternate = assignAlternate b p buffer given entry image
+
+unfoldable pub doSectors : Block → Params → (given : List ℕ) → Drive → (buffer image : List ℕ) → SectorCommand → Effect
+doSectors b p given entry buffer image Read = read b p entry buffer image
+doSectors b p given entry buffer image Write = write b p given entry buffer image
+
+unfoldable pub asEffect : (buffer : List ℕ) → Made → Effect
+asEffect buffer x = effect (x .ending) buffer [] (x .image)
+
+unfoldable pub doDisk : Block → Params → (given : List ℕ) → Drive → (buffer image : List ℕ) → DiskCommand → Effect
+doDisk b p given entry buffer image (ArmWork command) = effect (doArm b entry command) buffer [] image
+doDisk b p given entry buffer image (TrackWork command) = asEffect buffer (doTrack b p buffer given entry image command)
+doDisk b p given entry buffer image (SectorWork command) = doSectors b p given entry buffer image command
+
+-- Without parameters a command that needs them is 0Ah, which has been tested for before.
+unfoldable pub carryOut : Block → Setting → (given : List ℕ) → Drive → (buffer image : List ℕ) → Command → Effect
+carryOut b setting given entry buffer image (Free command) = doFree b given entry buffer image command
+carryOut b Invalid given entry buffer image (OnDisk command) =
+    effect (failed (b .drive) (b .drive) 0x0A (b .address) 0 0 entry) buffer [] image
+carryOut b (Valid p) given entry buffer image (OnDisk command) = doDisk b p given entry buffer image command
+carryOut b setting given entry buffer image Unknown =
+    effect (failed (b .drive) (b .drive) 0x20 (b .address) 0 0 entry) buffer [] image

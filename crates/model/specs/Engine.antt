@@ -5,7 +5,6 @@ use mathlib.Core.List.{List, [], _∷_}
 use lib.ListN.{length, getD, set, replicate}
 use lib.Dec.{eqb}
 use Rattle.base.specs.Pick.{pick}
-use Rattle.base.specs.Part.{splice}
 use Rattle.geometry.specs.declared.medium.Medium.{Medium}
 use Rattle.geometry.specs.declared.config.Setting.{Setting}
 use Rattle.geometry.specs.declared.config.Setting.the-variants.{Valid, Invalid}
@@ -16,9 +15,10 @@ use Rattle.model.specs.declared.record.Drive.{Drive}
 use Rattle.model.specs.declared.record.Controller.{Controller}
 use Rattle.model.specs.declared.record.Outcome.{Outcome}
 use Rattle.model.specs.Block.{blockOf}
-use Rattle.model.specs.Table.{entryOf}
-use Rattle.model.specs.Checks.{View, presentWith, judge}
-use Rattle.model.specs.Record.{blankDrive, driveAt, settingIn, bareOutcome, Effect, unless}
+use Rattle.model.specs.Table.{rowFor}
+use Rattle.model.specs.declared.verdict.View.{View}
+use Rattle.model.specs.Checks.{presentWith, judge}
+use Rattle.model.specs.Record.{blankDrive, driveAt, settingIn, bareAnswer, Effect, effect, areaAfter, unless}
 use Rattle.model.specs.Commands.{carryOut}
 
 -- ---- A command of six bytes on the image of the drive that it names
@@ -26,11 +26,12 @@ unfoldable pub viewOf : Medium → Drive → (image : ℕ) → View
 viewOf medium entry image =
     record { medium = medium; present = presentWith image; setting = settingIn medium entry image; pending = entry .pending }
 
--- The order of checks with numbers 2 and 3, then the command.
-unfoldable pub obey : Block → (given : List ℕ) → (area : ℕ) → Controller → (image : List ℕ) → Effect
-obey b given area c image =
-    unless (judge b (viewOf (mediumOf (b .drive)) (driveAt c (b .drive)) (length image)) (length given) area) b c image
-    (carryOut b (settingIn (mediumOf (b .drive)) (driveAt c (b .drive)) (length image)) given c image (entryOf (b .opcode) .command))
+-- The order of checks with numbers 2 and 3, then the command: its drive's entry, the buffer and its drive's image are all it sees.
+unfoldable pub obey : Block → (given : List ℕ) → (area : ℕ) → Drive → (buffer image : List ℕ) → Effect
+obey b given area entry buffer image =
+    let view = viewOf (mediumOf (b .drive)) entry (length image) in
+    unless (judge b view (length given) area) (b .drive) entry (λ e. effect e buffer [] image)
+    (carryOut b (view .setting) given entry buffer image (rowFor (b .opcode) .command))
 
 -- ---- All that a call leaves
 pub record Result : Type 0 where
@@ -46,21 +47,28 @@ imagesOf image0 image1 image2 image3 = image0 ∷ image1 ∷ image2 ∷ image3 �
 unfoldable pub imageOf : (drive : ℕ) → (images : List (List ℕ)) → List ℕ
 imageOf drive images = getD images drive []
 
--- The data area past the bytes handed over stays, and so does the image of every other drive.
-unfoldable pub left : (drive : ℕ) → Effect → (area : List ℕ) → (images : List (List ℕ)) → Result
-left drive effect area images =
-    record { outcome = effect .outcome; area = splice 0 (effect .handed) area; images = set images drive (effect .image) }
+-- The record and the images are put together: the entry and the image of every other drive stay.
+unfoldable pub left : (drive : ℕ) → Effect → Controller → (area : List ℕ) → (images : List (List ℕ)) → Result
+left drive e c area images = record {
+  outcome = record {
+    controller = record { buffer = e .buffer; drives = set (c .drives) drive (e .ending .entry) };
+    answer = e .ending .answer;
+  };
+  area = areaAfter e area;
+  images = set images drive (e .image);
+}
 
--- A command on the image of the drive that it names.
-abbrev pub onImages : Block → (given : List ℕ) → Controller → (area : List ℕ) → (images : List (List ℕ)) → Result
-onImages b given c area images = left (b .drive) (obey b given (length area) c (imageOf (b .drive) images)) area images
+-- A command on the drive that it names.
+unfoldable pub onDrive : Block → (given : List ℕ) → Controller → (area : List ℕ) → (images : List (List ℕ)) → Result
+onDrive b given c area images =
+    left (b .drive) (obey b given (length area) (driveAt c (b .drive)) (c .buffer) (imageOf (b .drive) images)) c area images
 
 -- A block that is not six bytes: number 1, all unchanged.
 unfoldable pub execute : Controller → (block given area : List ℕ) → (images : List (List ℕ)) → Result
 execute c block given area images =
     pick (eqb (length block) 6)
-    (onImages (blockOf block) given c area images)
-    (record { outcome = bareOutcome 1 c; area = area; images = images })
+    (onDrive (blockOf block) given c area images)
+    (record { outcome = record { controller = c; answer = bareAnswer 1 }; area = area; images = images })
 
 -- ---- Reset: the buffer and all sixteen sense bytes are zero. A valid label comes into force, not pending; otherwise the
 -- drive has no parameters.
@@ -81,4 +89,4 @@ fresh images = record {
 
 -- It answers zeros and changes no image.
 unfoldable pub resetOf : (images : List (List ℕ)) → Outcome
-resetOf images = bareOutcome 0 (fresh images)
+resetOf images = record { controller = fresh images; answer = bareAnswer 0 }

@@ -5,6 +5,7 @@ pub mod Sense
 pub mod Record
 pub mod Commands
 pub mod Engine
+pub mod Premises
 pub mod Feed
 pub mod Machine
 pub mod Claim

@@ -24,12 +24,23 @@ use Rattle.geometry.specs.Medium.{mediumOf}
 use Rattle.geometry.specs.Config.{settingOf}
 use Rattle.model.specs.declared.block.Block.{Block}
 use Rattle.model.specs.declared.table.Command.{Command}
-use Rattle.model.specs.declared.table.Command.the-variants.{TestReady, Recalibrate, RequestSense, FormatDrive, CheckTrack, FormatTrack, FormatBadTrack, Read, Write, Seek, AssignAlternate, WriteBuffer, ReadBuffer, Initialize, Unknown}
+use Rattle.model.specs.declared.table.Command.the-variants.{Free, OnDisk, Unknown}
+use Rattle.model.specs.declared.table.FreeCommand.{FreeCommand}
+use Rattle.model.specs.declared.table.FreeCommand.the-variants.{RequestSense, WriteBuffer, ReadBuffer, Initialize}
+use Rattle.model.specs.declared.table.DiskCommand.{DiskCommand}
+use Rattle.model.specs.declared.table.DiskCommand.the-variants.{ArmWork, TrackWork, SectorWork}
+use Rattle.model.specs.declared.table.ArmCommand.{ArmCommand}
+use Rattle.model.specs.declared.table.ArmCommand.the-variants.{TestReady, Recalibrate, Seek}
+use Rattle.model.specs.declared.table.TrackCommand.{TrackCommand}
+use Rattle.model.specs.declared.table.TrackCommand.the-variants.{FormatDrive, CheckTrack, FormatTrack, FormatBadTrack, AssignAlternate}
+use Rattle.model.specs.declared.table.SectorCommand.{SectorCommand}
+use Rattle.model.specs.declared.table.SectorCommand.the-variants.{Read, Write}
 use Rattle.model.specs.declared.verdict.Verdict.{Verdict}
 use Rattle.model.specs.declared.verdict.Verdict.the-variants.{Refused, Faulty, Passed}
 use Rattle.model.specs.Block.{blockOf, countOf, fromBuffer}
-use Rattle.model.specs.Table.{entryOf}
-use Rattle.model.specs.Checks.{Test, on, judged, View, presentWith, judge}
+use Rattle.model.specs.Table.{rowFor}
+use Rattle.model.specs.declared.verdict.View.{View}
+use Rattle.model.specs.Checks.{Test, on, judged, presentWith, judge}
 use Rattle.model.specs.Sense.{senseOf}
 use Rattle.model.specs.Feed.{Feed, reset, command, Reply, bare}
 
@@ -222,13 +233,13 @@ passing Passed u rest = rest
 unfoldable pub readFrom : Params → (n a : ℕ) → Disk → Passage
 readFrom p zero a u = finished Passed u
 readFrom p (suc n) a u =
-    passing (judged (denied (u .kind (trackOf p (record { 0 = a }))) (record { 0 = a })) Passed) u
+    passing (judged (denied (u .kind (trackOf p (record { 0 = a }))) (record { 0 = a }))) u
     (withFirst (u .held (record { 0 = a })) (readFrom p n (suc a) u))
 
 unfoldable pub writeFrom : Params → (n a : ℕ) → (given : List ℕ) → Disk → Passage
 writeFrom p zero a given u = finished Passed u
 writeFrom p (suc n) a given u =
-    passing (judged (denied (u .kind (trackOf p (record { 0 = a }))) (record { 0 = a })) Passed) u
+    passing (judged (denied (u .kind (trackOf p (record { 0 = a }))) (record { 0 = a }))) u
     (withFirst (take (p .size) given)
     (writeFrom p n (suc a) (drop (p .size) given) (storing (record { 0 = a }) (take (p .size) given) u)))
 
@@ -279,7 +290,7 @@ reformatted p s inter fill u = record {
 -- ---- A command whose checks have passed, up to its own, on a drive with parameters p in force
 unfoldable pub formatDrive : Block → Params → Machine → Disk → Reply × Machine
 formatDrive b p m u =
-    providing (judged (on (someParted (u .kind) (trackOf p (b .address) .0) (trackCount p)) 0x1D (b .address) ∷ []) Passed) b m
+    providing (judged (on (someParted (u .kind) (trackOf p (b .address) .0) (trackCount p)) 0x1D (b .address) ∷ [])) b m
     (well b 0 [] (withDisk (b .drive) (reformatted p (trackOf p (b .address) .0) (b .extra) (filling b p m) u) m))
 
 -- Check Track gives 1Ah exactly when its interleave is not the track's.
@@ -287,19 +298,18 @@ unfoldable pub checkTrack : Block → Params → Machine → Disk → Reply × M
 checkTrack b p m u =
     providing
     (judged
-    (denied (u .kind (trackOf p (b .address))) (b .address) ++ (on (not (eqb (b .extra) (u .inter (trackOf p (b .address))))) 0x1A (b .address) ∷ []))
-    Passed)
+    (denied (u .kind (trackOf p (b .address))) (b .address) ++ (on (not (eqb (b .extra) (u .inter (trackOf p (b .address))))) 0x1A (b .address) ∷ [])))
     b m (well b 0 [] m)
 
 unfoldable pub formatTrack : Block → Params → Machine → Disk → Reply × Machine
 formatTrack b p m u =
-    providing (judged (paired (u .kind (trackOf p (b .address))) (b .address)) Passed) b m
+    providing (judged (paired (u .kind (trackOf p (b .address))) (b .address))) b m
     (well b 0 []
     (withDisk (b .drive) (filled p (trackOf p (b .address)) (filling b p m) (becomes (trackOf p (b .address)) sound (b .extra) u)) m))
 
 unfoldable pub formatBadTrack : Block → Params → Machine → Disk → Reply × Machine
 formatBadTrack b p m u =
-    providing (judged (paired (u .kind (trackOf p (b .address))) (b .address)) Passed) b m
+    providing (judged (paired (u .kind (trackOf p (b .address))) (b .address))) b m
     (well b 0 [] (withDisk (b .drive) (becomes (trackOf p (b .address)) bad (b .extra) u) m))
 
 unfoldable pub read : Block → Params → Machine → Disk → Reply × Machine
@@ -314,7 +324,7 @@ assignTo p A B inter fill u = filled p A fill (becomes B (taken A) inter (become
 
 unfoldable pub assignAlternate : Block → Params → (given : List ℕ) → Machine → Disk → Reply × Machine
 assignAlternate b p given m u =
-    providing (judged (unassignable (u .kind) p (byte given 0) (b .address) (addressGiven given)) Passed) b m
+    providing (judged (unassignable (u .kind) p (byte given 0) (b .address) (addressGiven given))) b m
     (well b 0 []
     (withDisk (b .drive) (assignTo p (trackOf p (b .address)) (trackOf p (addressGiven given)) (b .extra) (filling b p m) u) m))
 
@@ -327,26 +337,38 @@ unfoldable pub initializeBy : Setting → Block → (config : List ℕ) → Mach
 initializeBy Invalid b config m u = failing b 0x22 (b .address) 0 [] m
 initializeBy (Valid p) b config m u = well b 0 [] (withDisk (b .drive) (inForce (some config) (not (isStored (u .stored) config)) u) m)
 
--- ---- The commands
-unfoldable pub withParameters : Setting → Block → Machine → (Params → Reply × Machine) → Reply × Machine
-withParameters Invalid b m run = failing b 0x0A (b .address) 0 [] m
-withParameters (Valid p) b m run = run p
+-- ---- The commands, once their checks have passed
+unfoldable pub freely : Block → (given : List ℕ) → Machine → Disk → FreeCommand → Reply × Machine
+freely b given m u RequestSense = (well b 0 (m .senses (b .drive)) m .0, m)
+freely b given m u WriteBuffer = well b 0 [] (withBuffer (take 512 given) m)
+freely b given m u ReadBuffer = well b 0 (m .buffer) m
+freely b given m u Initialize = initializeBy (settingOf (mediumOf (b .drive)) (take 10 given) (u .len)) b (take 10 given) m u
+
+unfoldable pub seeking : Block → Machine → ArmCommand → Reply × Machine
+seeking b m TestReady = well b 0 [] m
+seeking b m Recalibrate = well b 0 [] m
+seeking b m Seek = well b 0 [] m
+
+unfoldable pub onTracks : Block → Params → (given : List ℕ) → Machine → Disk → TrackCommand → Reply × Machine
+onTracks b p given m u FormatDrive = formatDrive b p m u
+onTracks b p given m u CheckTrack = checkTrack b p m u
+onTracks b p given m u FormatTrack = formatTrack b p m u
+onTracks b p given m u FormatBadTrack = formatBadTrack b p m u
+onTracks b p given m u AssignAlternate = assignAlternate b p given m u
+
+unfoldable pub onSectors : Block → Params → (given : List ℕ) → Machine → Disk → SectorCommand → Reply × Machine
+onSectors b p given m u Read = read b p m u
+onSectors b p given m u Write = write b p given m u
+
+unfoldable pub withParameters : Block → Params → (given : List ℕ) → Machine → Disk → DiskCommand → Reply × Machine
+withParameters b p given m u (ArmWork w) = seeking b m w
+withParameters b p given m u (TrackWork w) = onTracks b p given m u w
+withParameters b p given m u (SectorWork w) = onSectors b p given m u w
 
 unfoldable pub carried : Block → Setting → (given : List ℕ) → Machine → Disk → Command → Reply × Machine
-carried b setting given m u TestReady = well b 0 [] m
-carried b setting given m u Recalibrate = well b 0 [] m
-carried b setting given m u RequestSense = (well b 0 (m .senses (b .drive)) m .0, m)
-carried b setting given m u FormatDrive = withParameters setting b m (λ p. formatDrive b p m u)
-carried b setting given m u CheckTrack = withParameters setting b m (λ p. checkTrack b p m u)
-carried b setting given m u FormatTrack = withParameters setting b m (λ p. formatTrack b p m u)
-carried b setting given m u FormatBadTrack = withParameters setting b m (λ p. formatBadTrack b p m u)
-carried b setting given m u Read = withParameters setting b m (λ p. read b p m u)
-carried b setting given m u Write = withParameters setting b m (λ p. write b p given m u)
-carried b setting given m u Seek = well b 0 [] m
-carried b setting given m u AssignAlternate = withParameters setting b m (λ p. assignAlternate b p given m u)
-carried b setting given m u WriteBuffer = well b 0 [] (withBuffer (take 512 given) m)
-carried b setting given m u ReadBuffer = well b 0 (m .buffer) m
-carried b setting given m u Initialize = initializeBy (settingOf (mediumOf (b .drive)) (take 10 given) (u .len)) b (take 10 given) m u
+carried b setting given m u (Free w) = freely b given m u w
+carried b Invalid given m u (OnDisk w) = failing b 0x0A (b .address) 0 [] m
+carried b (Valid p) given m u (OnDisk w) = withParameters b p given m u w
 carried b setting given m u Unknown = failing b 0x20 (b .address) 0 [] m
 
 -- ---- The order of checks, then the command
@@ -361,7 +383,7 @@ seen medium u =
 unfoldable pub ordered : Block → (given : List ℕ) → (area : ℕ) → Machine → Disk → Reply × Machine
 ordered b given area m u =
     let view = seen (mediumOf (b .drive)) u in
-    providing (judge b view (length given) area) b m (carried b (view .setting) given m u (entryOf (b .opcode) .command))
+    providing (judge b view (length given) area) b m (carried b (view .setting) given m u (rowFor (b .opcode) .command))
 
 -- ---- Reset drops pending and returns to the stored configuration, map unchanged; buffer and senses are zero.
 unfoldable pub restored : Disk → Disk

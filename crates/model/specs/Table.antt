@@ -1,59 +1,98 @@
 -- Document 01, 'Commands': one constant table, by opcode: the checks that apply, data in and out.
 use Prim.Native.Nat.{ℕ}
-use mathlib.Core.Bool.{Bool, true, false}
+use mathlib.Core.Bool.{Bool, false, _||_}
 use mathlib.Core.List.{List, [], _∷_}
 use lib.ListN.{getD}
+use lib.Dec.{eqb}
 use Rattle.model.specs.declared.table.Command.{Command}
-use Rattle.model.specs.declared.table.Command.the-variants.{TestReady, Recalibrate, RequestSense, FormatDrive, CheckTrack, FormatTrack, FormatBadTrack, Read, Write, Seek, AssignAlternate, WriteBuffer, ReadBuffer, Initialize, Unknown}
+use Rattle.model.specs.declared.table.Command.the-variants.{Free, OnDisk, Unknown}
+use Rattle.model.specs.declared.table.FreeCommand.the-variants.{RequestSense, WriteBuffer, ReadBuffer, Initialize}
+use Rattle.model.specs.declared.table.DiskCommand.the-variants.{ArmWork, TrackWork, SectorWork}
+use Rattle.model.specs.declared.table.ArmCommand.the-variants.{TestReady, Recalibrate, Seek}
+use Rattle.model.specs.declared.table.TrackCommand.the-variants.{FormatDrive, CheckTrack, FormatTrack, FormatBadTrack, AssignAlternate}
+use Rattle.model.specs.declared.table.SectorCommand.the-variants.{Read, Write}
 use Rattle.model.specs.declared.table.Data.{Data}
 use Rattle.model.specs.declared.table.Data.the-variants.{Nothing, Sense, Alternate, Configuration, Buffer, Sectors}
-use Rattle.model.specs.declared.table.Entry.{Entry}
 
-abbrev pub row : Command → (known drive parameters address fill interleave counted settled whole hard : Bool) → (takes gives : Data) → Entry
-row command known drive parameters address fill interleave counted settled whole hard takes gives = record {
-  command = command;
-  known = known;
-  drive = drive;
-  parameters = parameters;
-  address = address;
-  fill = fill;
-  interleave = interleave;
-  counted = counted;
-  settled = settled;
-  whole = whole;
-  hard = hard;
-  takes = takes;
-  gives = gives;
-}
+-- The checks that not every command meets, by name.
+pub data Check : Type 0 where
+  -- 22h on a floppy (request E3)
+  HardOnly : Check
+  -- an undefined control bit, 22h; with FillBit, bit 5 is defined
+  Control FillBit : Check
+  -- 04h
+  Present : Check
+  -- 0Ah
+  Parameters : Check
+  -- byte 4 is an interleave: 22h
+  Interleave : Check
+  -- 21h; with Counted, byte 4 is a count, and the last address is checked too
+  Address Counted : Check
+  -- 16h; with SparedWhole, not where the address's track is 0
+  Settled SparedWhole : Check
 
-abbrev pub unknown : Entry
-unknown = row Unknown false false false false false false false false false false Nothing Nothing
+-- each has a number
+unfoldable pub checkNumber : Check → ℕ
+checkNumber HardOnly = 0
+checkNumber Control = 1
+checkNumber FillBit = 2
+checkNumber Present = 3
+checkNumber Parameters = 4
+checkNumber Interleave = 5
+checkNumber Address = 6
+checkNumber Counted = 7
+checkNumber Settled = 8
+checkNumber SparedWhole = 9
 
--- known: else 20h. drive: 04h applies. parameters: 0Ah applies. address: control bits and address are checked. fill: control
--- bit 5 is defined. interleave, counted: what byte 4 is. settled: 16h applies; whole: but not where s is track 0. hard: on hard
--- disks only, 22h on a floppy (request E3).
-abbrev pub table : List Entry
+unfoldable pub isAmong : Check → List Check → Bool
+isAmong check [] = false
+isAmong check (first ∷ checks) = eqb (checkNumber check) (checkNumber first) || isAmong check checks
+
+-- A row of the table.
+pub record TableRow : Type 0 where
+  pub command : Command
+  pub checks : List Check
+  pub takes : Data
+  pub gives : Data
+
+-- A check applies to a command.
+abbrev pub applies : Check → TableRow → Bool
+applies check e = isAmong check (e .checks)
+
+abbrev pub row : Command → List Check → (takes gives : Data) → TableRow
+row command checks takes gives = record { command = command; checks = checks; takes = takes; gives = gives }
+
+-- the checks of every command that works on the disk; of those, the ones with an address
+abbrev pub driveChecks : List Check
+driveChecks = Present ∷ Parameters ∷ []
+
+abbrev pub addressChecks : List Check
+addressChecks = Control ∷ Present ∷ Parameters ∷ Address ∷ Settled ∷ []
+
+abbrev pub unknown : TableRow
+unknown = row Unknown [] Nothing Nothing
+
+abbrev pub table : List TableRow
 table =
-    -- known drive parameters address fill interleave counted settled whole hard takes gives
-    row TestReady true true true false false false false false false false Nothing Nothing
-    ∷ row Recalibrate true true true false false false false false false false Nothing Nothing
+    row (OnDisk (ArmWork TestReady)) driveChecks Nothing Nothing
+    ∷ row (OnDisk (ArmWork Recalibrate)) driveChecks Nothing Nothing
     ∷ unknown
-    ∷ row RequestSense true false false false false false false false false false Nothing Sense
-    ∷ row FormatDrive true true true true true true false true true false Nothing Nothing
-    ∷ row CheckTrack true true true true false true false true false true Nothing Nothing
-    ∷ row FormatTrack true true true true true true false true false false Nothing Nothing
-    ∷ row FormatBadTrack true true true true false true false true false false Nothing Nothing
-    ∷ row Read true true true true false false true true false false Nothing Sectors
+    ∷ row (Free RequestSense) [] Nothing Sense
+    ∷ row (OnDisk (TrackWork FormatDrive)) (FillBit ∷ Interleave ∷ SparedWhole ∷ addressChecks) Nothing Nothing
+    ∷ row (OnDisk (TrackWork CheckTrack)) (HardOnly ∷ Interleave ∷ addressChecks) Nothing Nothing
+    ∷ row (OnDisk (TrackWork FormatTrack)) (FillBit ∷ Interleave ∷ addressChecks) Nothing Nothing
+    ∷ row (OnDisk (TrackWork FormatBadTrack)) (Interleave ∷ addressChecks) Nothing Nothing
+    ∷ row (OnDisk (SectorWork Read)) (Counted ∷ addressChecks) Nothing Sectors
     ∷ unknown
-    ∷ row Write true true true true false false true true false false Sectors Nothing
-    ∷ row Seek true true true true false false false true false false Nothing Nothing
+    ∷ row (OnDisk (SectorWork Write)) (Counted ∷ addressChecks) Sectors Nothing
+    ∷ row (OnDisk (ArmWork Seek)) addressChecks Nothing Nothing
     ∷ unknown
     ∷ unknown
-    ∷ row AssignAlternate true true true true true true false true false true Alternate Nothing
-    ∷ row WriteBuffer true false false false false false false false false false Buffer Nothing
-    ∷ row ReadBuffer true false false false false false false false false false Nothing Buffer
-    ∷ row Initialize true true false false false false false false false false Configuration Nothing
+    ∷ row (OnDisk (TrackWork AssignAlternate)) (HardOnly ∷ FillBit ∷ Interleave ∷ addressChecks) Alternate Nothing
+    ∷ row (Free WriteBuffer) [] Buffer Nothing
+    ∷ row (Free ReadBuffer) [] Nothing Buffer
+    ∷ row (Free Initialize) (Present ∷ []) Configuration Nothing
     ∷ []
 
-unfoldable pub entryOf : (opcode : ℕ) → Entry
-entryOf opcode = getD table opcode unknown
+unfoldable pub rowFor : (opcode : ℕ) → TableRow
+rowFor opcode = getD table opcode unknown

@@ -25,6 +25,12 @@ pub struct Answer {
     pub bytes: u32,
 }
 
+// What a command leaves of its drive's entry, and its answer.
+pub struct Ending {
+    pub entry: Drive,
+    pub answer: Answer,
+}
+
 pub struct Outcome {
     pub controller: Controller,
     pub answer: Answer,

@@ -1,20 +1,42 @@
-// What the table of commands says of an opcode.
+// The commands, by what they need: to carry one out is to match its group, then the command.
 pub enum Command {
+    // no parameters
+    Free(FreeCommand),
+    // parameters in force: else 0Ah
+    OnDisk(DiskCommand),
+    Unknown,
+}
+
+pub enum FreeCommand {
+    RequestSense,
+    WriteBuffer,
+    ReadBuffer,
+    Initialize,
+}
+
+pub enum DiskCommand {
+    ArmWork(ArmCommand),
+    TrackWork(TrackCommand),
+    SectorWork(SectorCommand),
+}
+
+pub enum ArmCommand {
     TestReady,
     Recalibrate,
-    RequestSense,
+    Seek,
+}
+
+pub enum TrackCommand {
     FormatDrive,
     CheckTrack,
     FormatTrack,
     FormatBadTrack,
+    AssignAlternate,
+}
+
+pub enum SectorCommand {
     Read,
     Write,
-    Seek,
-    AssignAlternate,
-    WriteBuffer,
-    ReadBuffer,
-    Initialize,
-    Unknown,
 }
 
 // The kinds of data that a command takes or hands over.
@@ -25,31 +47,4 @@ pub enum Data {
     Configuration,
     Buffer,
     Sectors,
-}
-
-// The checks that apply to a command, and its data.
-pub struct Entry {
-    pub command: Command,
-    // else 20h
-    pub known: bool,
-    // 04h applies
-    pub drive: bool,
-    // 0Ah applies
-    pub parameters: bool,
-    // control bits and the address are checked
-    pub address: bool,
-    // control bit 5 is defined
-    pub fill: bool,
-    // byte 4 is an interleave
-    pub interleave: bool,
-    // byte 4 is a count
-    pub counted: bool,
-    // 16h applies
-    pub settled: bool,
-    // but not from track 0 on
-    pub whole: bool,
-    // hard disks only: 22h on a floppy
-    pub hard: bool,
-    pub takes: Data,
-    pub gives: Data,
 }

@@ -31,8 +31,10 @@ fn note(slots: &mut [u8], slot: &[u8], k: u8)
 
 // Looks at the slots from `looked` on, until one is noted for sector s. Answers how many have been looked at.
 pub fn look_for(track: &[u8], p: Params, slots: &mut [u8], looked: usize, s: usize) -> usize
-    requires { ⌜ Within p × (length (now track) ≡ trackSize p) × (length (now slots) ≡ 32) × (looked ≤ p .sectors) × (s < p .sectors) × Noted p (now track) (now slots) looked ⌝ }
-    ensures { λ r. ⌜ (length (now (slots .exit)) ≡ 32) × (r ≤ p .sectors) × Noted p (now (track .entry)) (now (slots .exit)) r × (getD (now (slots .exit)) s 0xFF ≡ noteOf (slotUsed p s (now (track .entry)))) ⌝ }
+    requires { ⌜ Within p × (length (now track) ≡ trackSize p) × (length (now slots) ≡ 32) × (looked ≤ p .sectors) × (s < p .sectors)
+        × Noted p (now track) (now slots) looked ⌝ }
+    ensures { λ r. ⌜ (length (now (slots .exit)) ≡ 32) × (r ≤ p .sectors) × Noted p (now (track .entry)) (now (slots .exit)) r
+        × (getD (now (slots .exit)) s 0xFF ≡ noteOf (slotUsed p s (now (track .entry)))) ⌝ }
 {
     let n = p.sectors;
     let size = p.slot_size();

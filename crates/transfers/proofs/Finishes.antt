@@ -1,5 +1,5 @@
 -- What Read and Write leave, by what was transferred.
-use mathlib.Core.Path.{_≡_, refl, sym}
+use mathlib.Core.Path.{_≡_}
 use mathlib.Core.Bool.{Bool, true, false}
 use mathlib.Core.List.{List}
 use Prim.Native.Nat.{ℕ, _*_, _≤_, _<_}
@@ -12,32 +12,18 @@ use Rattle.base.specs.Part.{splice}
 use Rattle.sectors.specs.Transfer.{Transfer}
 use Rattle.model.specs.declared.block.Block.{Block}
 use Rattle.model.specs.declared.record.Drive.{Drive}
-use Rattle.model.specs.declared.record.Controller.{Controller}
+use Rattle.model.specs.declared.record.Ending.{Ending}
 use Rattle.model.specs.Block.{countOf}
-use Rattle.model.specs.Record.{withBuffer, good, failed}
-use Rattle.model.specs.Commands.{transferred}
-use Rattle.endings.specs.declared.record.Ending.{Ending}
-use Rattle.endings.specs.Leaves.{recordOf, leftWith, Leaves}
-use Rattle.transfers.specs.Finish.{finishOf}
+use Rattle.model.specs.Record.{effect}
+use Rattle.model.specs.Commands.{transferEnding, transferred}
 
--- ---- the outcome, with the last sector at the buffer's front
-outcome-by : (b : Block) (c : Controller) (x : Transfer) (t : Bool) → eqb (x .code) 0 ≡ t
-    → transferred b c x ≡ record {
-      outcome = finishOf b (x .done) (x .code) (length (x .handed)) (withBuffer (splice 0 (x .last) (c .buffer)) c);
-      handed = x .handed;
-      image = x .image;
-    }
-unfolding transferred good failed finishOf pick
-outcome-by b c x true e = rw e refl
-outcome-by b c x false e = rw e refl
-
-pub outcome-is : (b : Block) (drives : List Drive) (x : Transfer) (sectors code bytes : ℕ) (last before after : List ℕ) (r : Ending)
-    → after ≡ splice 0 last before → Leaves r drives (finishOf b sectors code bytes)
+-- what a transfer leaves, with the last sector at the buffer's front
+pub transfer-is : (b : Block) (entry : Drive) (x : Transfer) (sectors code bytes : ℕ) (last before after : List ℕ) (r : Ending)
+    → after ≡ splice 0 last before → r ≡ transferEnding b sectors code bytes entry
     → sectors ≡ x .done → code ≡ x .code → bytes ≡ length (x .handed) → last ≡ x .last
-    → record { outcome = leftWith after r; handed = x .handed; image = x .image } ≡ transferred b (recordOf before drives) x
-unfolding withBuffer
-outcome-is b drives x sectors code bytes last before after r ea er es ec eb el =
-    rw (er after, ea, es, ec, eb, el) (sym (outcome-by b (recordOf before drives) x (eqb (x .code) 0) refl))
+    → effect r after (x .handed) (x .image) ≡ transferred b entry before x
+unfolding transferred
+transfer-is b entry x sectors code bytes last before after r ea er es ec eb el = rw (er, ea, es, ec, eb, el)
 
 -- ---- counts
 pick-most : (t : Bool) (m n k : ℕ) → m ≤ k → n ≤ k → pick t m n ≤ k

@@ -15,14 +15,14 @@ use Rattle.sectors.specs.Promises.{HasRead}
 use Rattle.sectors.proofs.Readings.{Handed, reading-handed}
 use Rattle.model.specs.declared.block.Block.{Block}
 use Rattle.model.specs.declared.record.Drive.{Drive}
+use Rattle.model.specs.declared.record.Ending.{Ending}
 use Rattle.model.specs.Block.{countOf}
 use Rattle.model.specs.Record.{Effect}
-use Rattle.model.specs.Commands.{read}
-use Rattle.endings.specs.declared.record.Ending.{Ending}
-use Rattle.endings.specs.Leaves.{recordOf, leftWith, Leaves, leftBy, leftNow}
-use Rattle.transfers.specs.Finish.{lastOf, finishOf}
+use Rattle.model.specs.Commands.{transferEnding, read}
+use Rattle.endings.specs.Left.{leftNow, leftBy}
+use Rattle.transfers.specs.Last.{lastOf}
 use Rattle.transfers.proofs.Lasts.{last-front, last-is}
-use Rattle.transfers.proofs.Finishes.{outcome-is}
+use Rattle.transfers.proofs.Finishes.{transfer-is}
 
 pub bytes-most : (k size : ℕ) → k ≤ 256 → size ≤ 512 → k * size ≤ 131072
 bytes-most k size h l = mul-le-mul {n₂ = 256} {m₂ = 512} h l
@@ -39,16 +39,15 @@ module _ (b : Block) (p : Params) (area₀ area image : List ℕ) (n : ℕ) (don
   pub read-code : done .code < 0x80
   read-code = rw (m .code) (has-read .code)
 
-  pub read-leaves : (drives : List Drive) (buffer₀ buffer : List ℕ) (e : Ending) → buffer ≡ splice 0 (lastOf (done .sectors) (p .size) area) buffer₀
-      → Leaves e drives (finishOf b (done .sectors) (done .code) (done .sectors * p .size))
-      → leftNow (leftWith buffer e) area image ≡ leftBy (read b p (recordOf buffer₀ drives) image) area₀
+  pub read-leaves : (entry : Drive) (buffer₀ buffer : List ℕ) (r : Ending) → buffer ≡ splice 0 (lastOf (done .sectors) (p .size) area) buffer₀
+      → r ≡ transferEnding b (done .sectors) (done .code) (done .sectors * p .size) entry
+      → leftNow r buffer area image ≡ leftBy (read b p entry buffer₀ image) area₀
   unfolding read leftBy
-  read-leaves drives buffer₀ buffer e eb leaves =
+  read-leaves entry buffer₀ buffer r eb er =
       let x = reading p n (b .address .0) (begun image) in
       let long : done .sectors * p .size ≡ length (x .handed) = rw (m .sectors) (sym (has-read .long)) in
       let last : lastOf (done .sectors) (p .size) area ≡ x .last =
       rw (m .sectors, m .area) (last-front (x .done) (p .size) (x .handed) area₀ (omega (arith, has-read .long)) ∙ sym (last-is _ _ _ _ (has-read .last-none) (has-read .last))) in
-      let is = outcome-is b drives x _ _ _ _ buffer₀ buffer e eb leaves (m .sectors) (m .code) long last in
-      let moved : leftNow (leftWith buffer e) area image ≡ leftNow (leftWith buffer e) (splice 0 (x .handed) area₀) (x .image) =
-      rw (m .area, has-read .same) refl in
+      let is = transfer-is b entry x _ _ _ _ buffer₀ buffer r eb er (m .sectors) (m .code) long last in
+      let moved : leftNow r buffer area image ≡ leftNow r buffer (splice 0 (x .handed) area₀) (x .image) = rw (m .area, has-read .same) refl in
       rw (← en) (moved ∙ ap (λ (y : Effect). leftBy y area₀) is)

@@ -16,12 +16,12 @@ use Rattle.sectors.proofs.Founds.{Code, found-fault}
 use Rattle.sectors.proofs.Onwards.{onward-has}
 use Rattle.model.specs.declared.block.Block.{Block}
 use Rattle.model.specs.declared.record.Drive.{Drive}
+use Rattle.model.specs.declared.record.Ending.{Ending}
 use Rattle.model.specs.Block.{countOf}
-use Rattle.model.specs.Commands.{transferred, write}
-use Rattle.endings.specs.declared.record.Ending.{Ending}
-use Rattle.endings.specs.Leaves.{recordOf, leftWith, silent, Leaves}
-use Rattle.transfers.specs.Finish.{lastOf, finishOf}
-use Rattle.transfers.proofs.Finishes.{outcome-is}
+use Rattle.model.specs.Commands.{transferEnding, transferred, write}
+use Rattle.model.specs.Record.{effect}
+use Rattle.transfers.specs.Last.{lastOf}
+use Rattle.transfers.proofs.Finishes.{transfer-is}
 
 -- ---- nothing is handed over, and each sector is the next D bytes given
 record Taken (p : Params) (given : List ℕ) (x : Transfer) : Type 0 where
@@ -64,18 +64,17 @@ module _ (p : Params) (n a : ℕ) (given image₀ image : List ℕ) (done : Done
   write-code = rw (w .code) (has-taken .code)
 
 -- ---- 0Ah Write
-module _ (b : Block) (p : Params) (drives : List Drive) (given image₀ image before after : List ℕ) (n : ℕ) (done : Done) (r : Ending) where
+module _ (b : Block) (p : Params) (entry : Drive) (given image₀ image before after : List ℕ) (n : ℕ) (done : Done) (r : Ending) where
   pub write-leaves : n ≡ countOf b → HasWritten p n (b .address .0) given done image₀ image
-      → after ≡ splice 0 (lastOf (done .sectors) (p .size) given) before → Leaves r drives (finishOf b (done .sectors) (done .code) 0)
-      → silent (leftWith after r) image ≡ write b p given (recordOf before drives) image₀
+      → after ≡ splice 0 (lastOf (done .sectors) (p .size) given) before → r ≡ transferEnding b (done .sectors) (done .code) 0 entry
+      → effect r after [] image ≡ write b p given entry before image₀
   unfolding write
   write-leaves en w ea er =
       let x = writing p n (b .address .0) given (begun image₀) in
       let h = has-taken p n (b .address .0) given image₀ image done w in
       let none : 0 ≡ length (x .handed) = sym (ap length (h .none)) in
       let last : lastOf (done .sectors) (p .size) given ≡ x .last = rw (w .sectors) (sym (h .last)) in
-      let is : record { outcome = leftWith after r; handed = x .handed; image = x .image } ≡ transferred b (recordOf before drives) x =
-      outcome-is b drives x _ _ _ _ before after r ea er (w .sectors) (w .code) none last in
-      let moved : silent (leftWith after r) image ≡ record { outcome = leftWith after r; handed = x .handed; image = x .image } =
-      rw (w .image, h .none) refl in
+      let is : effect r after (x .handed) (x .image) ≡ transferred b entry before x =
+      transfer-is b entry x _ _ _ _ before after r ea er (w .sectors) (w .code) none last in
+      let moved : effect r after [] image ≡ effect r after (x .handed) (x .image) = rw (w .image, h .none) refl in
       rw (← en) (moved ∙ is)

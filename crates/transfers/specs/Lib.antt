@@ -1,1 +1,1 @@
-pub mod Finish
+pub mod Last

@@ -1,18 +1,19 @@
 // What Read and Write share: the last sector to the buffer, and how a transfer ends.
 use base::bytes::put_front;
-use endings::record::Ending;
-use endings::record::failed;
-use endings::record::good;
+use endings::ending::failed;
+use endings::ending::good;
 use geometry::params::Lba;
 use model::block::Block;
 use model::record::Drive;
+use model::record::Ending;
 use sectors::transfer::Done;
 ghost use mathlib.Core.Path.{_≡_};
 ghost use Prim.Native.Nat.{_+_, _*_, _≤_, _<_};
 ghost use lib.ListN.{length};
 ghost use Rattle.base.specs.Part.{splice};
-ghost use Rattle.endings.specs.Leaves.{Leaves};
-ghost use Rattle.transfers.specs.Finish.{lastOf, finishOf};
+ghost use Rattle.model.specs.Commands.{transferEnding};
+ghost use Rattle.model.specs.Premises.{addressLimit};
+ghost use Rattle.transfers.specs.Last.{lastOf};
 
 // After a transfer the last sector done is at the buffer's front.
 pub fn keep_last(buffer: &mut [u8], sectors: usize, size: usize, moved: &[u8])
@@ -28,18 +29,19 @@ pub fn keep_last(buffer: &mut [u8], sectors: usize, size: usize, moved: &[u8])
 }
 
 // A transfer's end: good, or the failing sector's code and address.
-pub fn finish(drives: [Drive; 4], b: Block, done: Done, bytes: u32) -> Ending
-    requires { ⌜ (b .drive < 4) × (done .sectors ≤ 256) × (done .code < 0x80) × (b .address .0 + 256 < 2097152) ⌝ }
-    ensures { λ r. ⌜ Leaves r drives (finishOf b (done .sectors) (done .code) bytes) ⌝ }
+pub fn finish(entry: Drive, b: Block, done: Done, bytes: u32) -> Ending
+    requires { ⌜ (b .drive < 4) × (done .sectors ≤ 256) × (done .code < 0x80) × (b .address .0 + 256 < addressLimit) ⌝ }
+    ensures { λ r. ⌜ r ≡ transferEnding b (done .sectors) (done .code) bytes entry ⌝ }
 {
     let drive = b.drive;
     let first = b.address;
     let sectors = done.sectors;
     if done.code == 0 {
-        return good(drives, drive, sectors as u16, bytes);
+        return good(entry, drive, sectors as u16, bytes);
     }
     failed(
-        drives,
+        entry,
+        drive,
         drive,
         done.code,
         Lba(first.0 + sectors as u32),

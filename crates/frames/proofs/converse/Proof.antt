@@ -5,10 +5,6 @@ use mathlib.Core.Path.{_≡_, refl, ap, _∙_}
 use Rattle.frames.proofs.Going.{Going, lengths, going-first, going-on}
 use Rattle.frames.proofs.converse.Statement.{statement}
 use Rattle.frames.proofs.converse.Tie as tie
-use Rattle.frames.proofs.converse.Reads as reads
-use Rattle.frames.proofs.converse.Lts as lts
-use Rattle.frames.proofs.feed.Reads as feed-reads
-use Rattle.frames.proofs.read_some.Reads as read-some-reads
 
 abbrev Inv-loop : tie.InvT-loop
 Inv-loop input₀ bytes₀ area₀ image0₀ image1₀ image2₀ image3₀ text₀ session₀ turns₀ input bytes area image0 image1 image2 image3 text session turns =

@@ -4,14 +4,9 @@ use Prim.Native.Nat.{_-_}
 use lib.ListN.{length}
 use mathlib.Core.Path.{ap, _∙_}
 use mathlib.Core.Logic.{⊎-elim}
-use Rattle.hex.proofs.line.accept.Reads as accept-reads
-use Rattle.hex.proofs.line.start.Reads as start-reads
 use Rattle.frames.proofs.Going.{Going, lengths, going-first, going-on, started-fits, accepted-fits}
 use Rattle.frames.proofs.feed.Statement.{statement}
 use Rattle.frames.proofs.feed.Tie as tie
-use Rattle.frames.proofs.feed.Reads as reads
-use Rattle.frames.proofs.feed.Lts as lts
-use Rattle.frames.proofs.say.Reads as say-reads
 
 abbrev Inv-loop : tie.InvT-loop
 Inv-loop input bytes₀ area₀ image0₀ image1₀ image2₀ image3₀ text₀ controller₀ line₀ i₀ bytes area image0 image1 image2 image3 text controller line i =

@@ -2,8 +2,6 @@ use borrow.Author.Needs.{needs}
 use Rattle.frames.proofs.Going.{third}
 use Rattle.frames.proofs.is_begun.Statement.{statement}
 use Rattle.frames.proofs.is_begun.Tie as tie
-use Rattle.frames.proofs.is_begun.Reads as reads
-use Rattle.frames.proofs.is_begun.Lts as lts
 
 returns : tie.Need-returns
 returns c = search needs

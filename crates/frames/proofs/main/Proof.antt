@@ -1,15 +1,8 @@
 use borrow.Author.Needs.{needs}
 use mathlib.Core.Path.{ap}
 use native.Mathlib.Omega.{arith}
-use Rattle.engine.proofs.reset.fresh.Reads as fresh-reads
-use Rattle.hex.proofs.line.start.Reads as start-reads
 use Rattle.frames.proofs.main.Statement.{statement}
 use Rattle.frames.proofs.main.Tie as tie
-use Rattle.frames.proofs.main.Reads as reads
-use Rattle.frames.proofs.main.Lts as lts
-use Rattle.frames.proofs.converse.Reads as converse-reads
-use Rattle.frames.proofs.is_begun.Reads as is-begun-reads
-use Rattle.frames.proofs.say.Reads as say-reads
 
 slice-aggregate-fresh : tie.Need-slice-aggregate-fresh
 slice-aggregate-fresh c = search needs

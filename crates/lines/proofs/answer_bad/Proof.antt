@@ -1,11 +1,9 @@
 use borrow.Author.Needs.{needs}
-use Rattle.lines.proofs.Texts.{bad-written}
+use Rattle.lines.proofs.AnswerTexts.{bad-written}
 use mathlib.Core.Path.{refl}
 use lib.ListN.{length-set}
 use Rattle.lines.proofs.answer_bad.Statement.{statement}
 use Rattle.lines.proofs.answer_bad.Tie as tie
-use Rattle.lines.proofs.answer_bad.Reads as reads
-use Rattle.lines.proofs.answer_bad.Lts as lts
 
 slice-write-text : tie.Need-slice-write-text
 slice-write-text c = search needs

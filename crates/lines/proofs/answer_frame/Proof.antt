@@ -1,12 +1,7 @@
 use borrow.Author.Needs.{needs}
-use Rattle.engine.proofs.run.execute.Reads as execute-reads
 use Rattle.lines.proofs.Frames.{frame-answered}
 use Rattle.lines.proofs.answer_frame.Statement.{statement}
 use Rattle.lines.proofs.answer_frame.Tie as tie
-use Rattle.lines.proofs.answer_frame.Reads as reads
-use Rattle.lines.proofs.answer_frame.Lts as lts
-use Rattle.lines.proofs.least.Reads as least-reads
-use Rattle.lines.proofs.tell.Reads as tell-reads
 
 least-requires : tie.Need-least-requires
 least-requires c κs = search needs

@@ -4,12 +4,6 @@ use Rattle.lines.specs.Said.{saidNow}
 use Rattle.lines.proofs.Frames.{bad-answered, half-answered, line-reset, line-frame}
 use Rattle.lines.proofs.answer_line.Statement.{statement}
 use Rattle.lines.proofs.answer_line.Tie as tie
-use Rattle.lines.proofs.answer_line.Reads as reads
-use Rattle.lines.proofs.answer_line.Lts as lts
-use Rattle.lines.proofs.answer_bad.Reads as answer-bad-reads
-use Rattle.lines.proofs.answer_frame.Reads as answer-frame-reads
-use Rattle.lines.proofs.answer_reset.Reads as answer-reset-reads
-use Rattle.lines.proofs.is_reset.Reads as is-reset-reads
 
 answer-bad-requires : tie.Need-answer-bad-requires
 answer-bad-requires c κs = search needs

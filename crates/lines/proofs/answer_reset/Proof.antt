@@ -1,11 +1,7 @@
 use borrow.Author.Needs.{needs}
-use Rattle.engine.proofs.reset.reset.Reads as reset-reads
 use Rattle.lines.proofs.Frames.{reset-answered}
 use Rattle.lines.proofs.answer_reset.Statement.{statement}
 use Rattle.lines.proofs.answer_reset.Tie as tie
-use Rattle.lines.proofs.answer_reset.Reads as reads
-use Rattle.lines.proofs.answer_reset.Lts as lts
-use Rattle.lines.proofs.tell.Reads as tell-reads
 
 reset-requires : tie.Need-reset-requires
 reset-requires c κs = search needs

@@ -2,8 +2,6 @@ use borrow.Author.Needs.{needs}
 use Rattle.lines.proofs.Frames.{reset-longer, reset-one}
 use Rattle.lines.proofs.is_reset.Statement.{statement}
 use Rattle.lines.proofs.is_reset.Tie as tie
-use Rattle.lines.proofs.is_reset.Reads as reads
-use Rattle.lines.proofs.is_reset.Lts as lts
 
 returns : tie.Need-returns
 returns c = reset-longer _ (c .if1 .taken)

@@ -1,11 +1,8 @@
 use borrow.Author.Needs.{needs}
-use Rattle.lines.proofs.Texts.{tell-written, tell-length}
+use Rattle.lines.proofs.AnswerTexts.{tell-written, tell-length}
 use native.Mathlib.Omega.{arith}
-use Rattle.hex.proofs.text.encode.Reads as encode-reads
 use Rattle.lines.proofs.tell.Statement.{statement}
 use Rattle.lines.proofs.tell.Tie as tie
-use Rattle.lines.proofs.tell.Reads as reads
-use Rattle.lines.proofs.tell.Lts as lts
 
 slice-aggregate-encode : tie.Need-slice-aggregate-encode
 slice-aggregate-encode c = search needs

@@ -78,10 +78,10 @@ lba a = record { 0 = a }
 engine : Case → List ℕ
 engine c =
     says (judged (assignTests p (byte (c .given) 0) (lba (c .at)) (alternateOf (c .given))
-    (stateFor (kinds (trackOf p (lba (c .at))))) (stateFor (kinds (trackOf p (alternateOf (c .given)))))) Passed)
+    (stateFor (kinds (trackOf p (lba (c .at))))) (stateFor (kinds (trackOf p (alternateOf (c .given)))))))
 
 machine : Case → List ℕ
-machine c = says (judged (unassignable kinds p (byte (c .given) 0) (lba (c .at)) (addressGiven (c .given))) Passed)
+machine c = says (judged (unassignable kinds p (byte (c .given) 0) (lba (c .at)) (addressGiven (c .given))))
 
 assigning : (map engine cases ≡ map (λ (c : Case). c .sense) cases) × (map machine cases ≡ map (λ (c : Case). c .sense) cases)
 unfolding p kinds assign four cases says lba engine machine judged assignTests unassignable alternateOf addressGiven stateFor pick

@@ -27,13 +27,13 @@ use Rattle.model.specs.declared.block.Block.{Block}
 use Rattle.model.specs.declared.record.Controller.{Controller}
 use Rattle.model.specs.declared.verdict.Verdict.the-variants.{Faulty, Passed}
 use Rattle.model.specs.Block.{blockOf, countOf}
-use Rattle.model.specs.Table.{entryOf}
-use Rattle.model.specs.Checks.{View, judged, presentWith, controlWrong, lacks, reach, testsWith, tests, sizeIn, bytesOf, lengthsWith, judge}
+use Rattle.model.specs.Table.{checkNumber, isAmong, rowFor}
+use Rattle.model.specs.declared.verdict.View.{View}
+use Rattle.model.specs.Checks.{judged, presentWith, isUnknown, blockWrong, controlWrong, withParams, interleaveWrong, pastEnd, notSpared, sizeIn, bytesOf, reachOf, hitsOf, inOrder, judge}
 use Rattle.model.specs.Sense.{addressed, senseOf}
-use Rattle.model.specs.Record.{blankDrive, driveAt, withDrive, sensed, withSense, settingIn}
-use Rattle.model.specs.Record.{bareOutcome, failedOutcome, goodOutcome, Effect, failed, good, unless}
-use Rattle.model.specs.Commands.{requestSense, plainByte, plainFill, madeAt, assigned, settled, formatDrive, carryOut}
-use Rattle.model.specs.Engine.{viewOf, obey, Result, imagesOf, imageOf, left, execute}
+use Rattle.model.specs.Record.{blankDrive, driveAt, sensed, settingIn, failed, good, unless}
+use Rattle.model.specs.Commands.{plainByte, plainFill, madeAt, assigned, pendingEnded, formatDrive, doFree, asEffect, carryOut}
+use Rattle.model.specs.Engine.{viewOf, obey, Result, imagesOf, imageOf, left, onDrive, execute}
 use Rattle.model.specs.Machine.{Kind, freshDisk, becomes, filled, assignTo, parted, partedBy, someParted}
 
 -- sector s of a track of n, interleave f, is in slot k
@@ -81,11 +81,13 @@ controller = record {
 }
 
 -- Format Drive from track s on: its status, and the sense code that it leaves
-formatFrom : (s : ℕ) → Effect
-formatFrom s = formatDrive (block 0x04 0 0 (s * 3) 1 0) two controller moved
+formatFrom : (s : ℕ) → Result
+formatFrom s =
+    left 0 (asEffect (controller .buffer) (formatDrive (block 0x04 0 0 (s * 3) 1 0) two (controller .buffer) (driveAt controller 0) moved))
+    controller [] (imagesOf moved [] [] [])
 
-ends : Effect → List ℕ
-ends e = e .outcome .answer .status ∷ take 1 (driveAt (e .outcome .controller) 0 .sense)
+ends : Result → List ℕ
+ends r = r .outcome .answer .status ∷ take 1 (driveAt (r .outcome .controller) 0 .sense)
 
 -- the machine's states of tracks
 kinds : Track → Kind
@@ -126,9 +128,10 @@ examples :
 unfolding InSlot config lengthOf lengthFor one block four address two moved controller formatFrom ends kinds sought asked
     part splice rows firstFrom firstBelow isSome someBelow pick mediumOf isFloppy isIn rangesOf sizeFor fittedTo fieldsIn settingBy settingOf emptyFrom put place laid layoutOf
     flagOf partnerOf idBytes idIn idFor ownId trackBytes withTrack slotId firstId withSector slotMade slotsMade formatted
-    stateBy stateOf oneBelow splits pairSplit blockOf countOf entryOf judge judged tests testsWith presentWith controlWrong lacks isValid reach
-    sizeIn bytesOf lengthsWith addressed senseOf blankDrive driveAt withDrive sensed withSense settingIn bareOutcome failedOutcome
-    goodOutcome failed good unless requestSense plainByte plainFill madeAt assigned formatDrive settled carryOut viewOf obey imageOf left execute
+    stateBy stateOf oneBelow splits pairSplit blockOf countOf rowFor presentWith
+    judge judged inOrder hitsOf isUnknown blockWrong controlWrong withParams interleaveWrong pastEnd notSpared isValid reachOf sizeIn bytesOf isAmong checkNumber
+    addressed senseOf blankDrive driveAt sensed settingIn failed good unless plainByte plainFill madeAt assigned formatDrive pendingEnded asEffect doFree carryOut
+    viewOf obey imageOf left onDrive execute
     freshDisk becomes filled assignTo parted partedBy someParted
 examples = (
   (refl, refl),

@@ -18,15 +18,17 @@ use Rattle.track.specs.State.{track, flagOf, partnerOf, isBad, isMoved, isTaken
 use Rattle.track.specs.Image.{trackBytes, withTrack, slotId, firstId}
 use Rattle.track.specs.Pair.{stateBy, stateOf, splits, pairSplit}
 use Rattle.formatter.specs.Format.{slotMade, slotsMade, stepped, afterSteps, formatted, soundFrom}
-use Rattle.model.specs.declared.table.Command.{Command}
-use Rattle.model.specs.declared.table.Command.the-variants.{FormatDrive, FormatTrack, FormatBadTrack, AssignAlternate}
+use Rattle.model.specs.declared.table.Command.the-variants.{OnDisk}
+use Rattle.model.specs.declared.table.DiskCommand.the-variants.{TrackWork}
+use Rattle.model.specs.declared.table.TrackCommand.{TrackCommand}
+use Rattle.model.specs.declared.table.TrackCommand.the-variants.{FormatDrive, FormatTrack, FormatBadTrack, AssignAlternate}
 use Rattle.model.specs.declared.record.Drive.{Drive}
 use Rattle.model.specs.declared.record.Controller.{Controller}
 use Rattle.model.specs.Block.{blockOf, fromBuffer, alternateOf}
 use Rattle.model.specs.Checks.{judged}
-use Rattle.model.specs.Record.{blankDrive, driveAt, good, unless}
+use Rattle.model.specs.Record.{blankDrive, driveAt, unless}
 use Rattle.model.specs.Commands.{plainByte, plainFill, fillOf, madeAt, driveFormatted, formatDrive, aloneTests}
-use Rattle.model.specs.Commands.{formatTrack, assignTests, assigned, assignAlternate, onDisk, carryOut}
+use Rattle.model.specs.Commands.{formatTrack, assignTests, assigned, assignAlternate, doTrack, asEffect, doDisk, carryOut}
 
 p : Params
 p = record { cylinders = 1; heads = 3; sectors = 2; size = 1 }
@@ -49,11 +51,12 @@ controller = record {
 }
 
 -- the image that a command leaves of one that is EEh throughout, two bytes longer than the drive; address and control byte
-leavesOn : (drive : ℕ) → Command → (address control : ℕ) → (given : List ℕ) → List ℕ
+leavesOn : (drive : ℕ) → TrackCommand → (address control : ℕ) → (given : List ℕ) → List ℕ
 leavesOn drive command address control given =
-    carryOut (blockOf (0 ∷ (32 * drive) ∷ 0 ∷ address ∷ 1 ∷ control ∷ [])) (Valid p) given controller (replicate 72 0xEE) command .image
+    carryOut (blockOf (0 ∷ (32 * drive) ∷ 0 ∷ address ∷ 1 ∷ control ∷ [])) (Valid p) given (driveAt controller drive) (controller .buffer) (replicate 72 0xEE)
+    (OnDisk (TrackWork command)) .image
 
-leaves : Command → (address control : ℕ) → (given : List ℕ) → List ℕ
+leaves : TrackCommand → (address control : ℕ) → (given : List ℕ) → List ℕ
 leaves = leavesOn 0
 
 slot : (a b c d e f g h i : ℕ) → List ℕ
@@ -83,8 +86,8 @@ formats :
     × (leavesOn 3 FormatBadTrack 3 0 [] ≡ old 34 ++ slot 0xA1 0 0 1 0 1 0 0 0xE5 ++ slot 0xA1 0 0 1 1 1 0 0 0xE5 ++ old 20)
     × (leavesOn 2 FormatDrive 3 0x20 [] ≡ other ++ replicate 6 0 ++ old 18 ++ slot 0xA1 0 0 1 0 0 0 0 0xE5 ++ slot 0xA1 0 0 1 1 0 0 0 0xE5
     ++ slot 0xA1 0 0 2 0 0 0 0 0xE5 ++ slot 0xA1 0 0 2 1 0 0 0 0xE5 ++ old 2)
-unfolding p config other entry controller leavesOn leaves slot old carryOut onDisk formatDrive formatTrack assignAlternate assigned driveFormatted madeAt
-    plainByte plainFill fillOf fromBuffer mediumOf isFloppy blockOf alternateOf judged aloneTests assignTests isBad isMoved isTaken unless good driveAt blankDrive
+unfolding p config other entry controller leavesOn leaves slot old carryOut doDisk doTrack asEffect formatDrive formatTrack assignAlternate assigned driveFormatted madeAt
+    plainByte plainFill fillOf fromBuffer mediumOf isFloppy blockOf alternateOf judged aloneTests assignTests isBad isMoved isTaken unless driveAt blankDrive
     pairSplit splits stateOf stateBy firstId idIn ownId trackBytes slotId withTrack part splice rows formatted slotsMade slotMade withSector
     idBytes idFor flagOf partnerOf soundFrom layoutOf laid place put emptyFrom someBelow isSome firstBelow firstFrom pick
 formats = (refl, refl, refl, refl, refl, refl, refl, refl, refl, refl)

@@ -12,9 +12,12 @@ use Rattle.geometry.specs.Config.{sizeFor, fittedTo, fieldsIn, settingBy, setti
 use Rattle.model.specs.declared.record.Drive.{Drive}
 use Rattle.model.specs.declared.record.Controller.{Controller}
 use Rattle.model.specs.Block.{blockOf}
+use Rattle.model.specs.Table.{checkNumber, isAmong, rowFor}
+use Rattle.model.specs.Checks.{judged, presentWith, isUnknown, blockWrong, bytesOf, hitsOf, inOrder, judge}
 use Rattle.model.specs.Sense.{addressed, senseOf}
-use Rattle.model.specs.Record.{blankDrive, driveAt, withDrive, sensed, withSense, failedOutcome, goodOutcome, Effect, failed, good}
-use Rattle.model.specs.Commands.{initialized, initializedBy, initialize}
+use Rattle.model.specs.Record.{blankDrive, driveAt, sensed, failed, good, unless}
+use Rattle.model.specs.Commands.{initialized, initializedBy, initialize, doFree, carryOut}
+use Rattle.model.specs.Engine.{viewOf, obey, Result, imagesOf, imageOf, left, onDrive, execute}
 
 -- one track of 32 sectors, and the same with another precompensation
 own : List ℕ
@@ -32,8 +35,8 @@ before = record { buffer = replicate 512 0; drives = entry other 0x16 true ∷ b
 labelled : (rest : List ℕ) → List ℕ
 labelled rest = own ++ rest ++ replicate 8448 0xEE
 
-sends : (given rest : List ℕ) → Effect
-sends given rest = initialize (blockOf (0x11 ∷ 0 ∷ 0 ∷ 0 ∷ 0 ∷ 0 ∷ [])) given before (labelled rest)
+sends : (given rest : List ℕ) → Result
+sends given rest = execute before (0x11 ∷ 0 ∷ 0 ∷ 0 ∷ 0 ∷ 0 ∷ []) given [] (imagesOf (labelled rest) [] [] [])
 
 leaves : (given rest : List ℕ) → Drive
 leaves given rest = driveAt (sends given rest .outcome .controller) 0
@@ -49,8 +52,8 @@ initializing :
     -- not valid
     × (leaves (set own 2 8) (replicate 6 0) ≡ entry other 0x22 true)
     -- the image
-    × (sends own (replicate 6 0) .image ≡ labelled (replicate 6 0))
-unfolding own other entry before labelled sends leaves initialize initializedBy initialized labelHolds isValid labelSetting mediumOf settingOf
-    settingBy fieldsIn isIn rangesOf sizeFor fittedTo part sameBytes pick blockOf addressed senseOf blankDrive driveAt withDrive sensed withSense failedOutcome
-    goodOutcome failed good
+    × (imageOf 0 (sends own (replicate 6 0) .images) ≡ labelled (replicate 6 0))
+unfolding own other entry before labelled sends leaves execute onDrive left obey unless viewOf imageOf carryOut doFree initialize initializedBy initialized labelHolds isValid labelSetting mediumOf settingOf
+    settingBy fieldsIn isIn rangesOf sizeFor fittedTo part sameBytes pick blockOf addressed senseOf blankDrive driveAt sensed failed good
+    rowFor checkNumber isAmong judge judged inOrder hitsOf isUnknown blockWrong presentWith bytesOf
 initializing = (refl, refl, refl, refl, refl, refl)

@@ -14,12 +14,13 @@ use Rattle.model.specs.declared.block.Block.{Block}
 use Rattle.model.specs.declared.verdict.Verdict.{Verdict}
 use Rattle.model.specs.declared.verdict.Verdict.the-variants.{Refused, Faulty, Passed}
 use Rattle.model.specs.Block.{blockOf, countOf, fromBuffer, alternateOf}
-use Rattle.model.specs.Table.{entryOf}
-use Rattle.model.specs.Checks.{View, judged, presentWith, controlWrong, lacks, reach, testsWith, tests, sizeIn, bytesOf, lengthsWith, judge}
+use Rattle.model.specs.Table.{checkNumber, isAmong, rowFor}
+use Rattle.model.specs.declared.verdict.View.{View}
+use Rattle.model.specs.Checks.{judged, presentWith, isUnknown, blockWrong, controlWrong, withParams, interleaveWrong, pastEnd, notSpared, sizeIn, bytesOf, reachOf, hitsOf, inOrder, judge}
 use Rattle.model.specs.Sense.{addressed, senseOf}
 use Rattle.model.specs.Feed.{command}
-use Rattle.model.specs.Record.{settingIn, bareOutcome, failedOutcome, failed, unless}
-use Rattle.model.specs.Engine.{viewOf, obey, left, execute, fresh}
+use Rattle.model.specs.Record.{settingIn, failed, unless}
+use Rattle.model.specs.Engine.{viewOf, obey, left, onDrive, execute, fresh}
 use Rattle.model.specs.Machine.{freshDisk, freshMachine, failing, providing, addressGiven, settingWith, seen, ordered, step}
 
 -- ---- Drives of one head; known or not, pending or not; the image's length
@@ -167,35 +168,36 @@ situations =
 
 checks : map (λ (s : Situation). map (said s) opcodes) situations ≡ map (λ (s : Situation). s .codes) situations
 unfolding drive hard ready pending₁ pending₂ large unknown short absent floppy floppyReady floppyPending floppyUnknown floppyAbsent heard row opcodes when said situations
-    viewOf settingIn presentWith mediumOf isFloppy isIn rangesOf settingOf settingBy fieldsIn sizeFor fittedTo pick blockOf countOf entryOf
-    judge judged tests testsWith controlWrong lacks isValid reach sizeIn bytesOf lengthsWith
+    viewOf settingIn presentWith mediumOf isFloppy isIn rangesOf settingOf settingBy fieldsIn sizeFor fittedTo pick blockOf countOf rowFor
+    judge judged inOrder hitsOf isUnknown blockWrong controlWrong withParams interleaveWrong pastEnd notSpared isValid reachOf sizeIn bytesOf isAmong checkNumber
 checks = refl
 
 -- each undefined control bit by itself
 undefined-bits : map (λ (control : ℕ). map (said (when ready 0x00 0 1 control 512 512 [])) opcodes) (0x01 ∷ 0x02 ∷ 0x04 ∷ 0x08 ∷ 0x10 ∷ 0x40 ∷ [])
     ≡ replicate 6 (row 0x00 0x00 0x20 0x00 0x22 0x22 0x22 0x22 0x22 0x20 0x22 0x22 0x20 0x20 0x22 0x00 0x00 0x00 0x20)
-unfolding drive hard ready heard row opcodes when said viewOf settingIn presentWith mediumOf isFloppy isIn rangesOf settingOf settingBy fieldsIn sizeFor fittedTo pick blockOf countOf entryOf
-    judge judged tests testsWith controlWrong lacks isValid reach sizeIn bytesOf lengthsWith
+unfolding drive hard ready heard row opcodes when said viewOf settingIn presentWith mediumOf isFloppy isIn rangesOf settingOf settingBy fieldsIn sizeFor fittedTo pick blockOf countOf rowFor
+    judge judged inOrder hitsOf isUnknown blockWrong controlWrong withParams interleaveWrong pastEnd notSpared isValid reachOf sizeIn bytesOf isAmong checkNumber
 undefined-bits = refl
 
 -- an opcode past the table is unknown too, with bit 7 or without
 past-table : map (said (when absent 0x80 0 0 0xFF 0 0 [])) (0x12 ∷ 0x13 ∷ 0x20 ∷ 0x80 ∷ 0x91 ∷ 0xFF ∷ []) ≡ replicate 6 0x20
-unfolding drive hard absent heard when said viewOf settingIn presentWith mediumOf isFloppy isIn rangesOf settingOf settingBy fieldsIn sizeFor fittedTo pick blockOf entryOf lacks judge judged tests
+unfolding drive hard absent heard when said viewOf settingIn presentWith mediumOf isFloppy isIn rangesOf settingOf settingBy fieldsIn sizeFor fittedTo pick blockOf rowFor
+    judge judged inOrder hitsOf isUnknown blockWrong
 past-table = refl
 
 -- number 1 comes before all else: the block has not six bytes
 six-bytes :
     (map (λ (n : ℕ). execute (fresh []) (replicate n 0xFF) [] [] [] .outcome .answer .number) (0 ∷ 5 ∷ 6 ∷ 7 ∷ 12 ∷ []) ≡ 1 ∷ 1 ∷ 0 ∷ 1 ∷ 1 ∷ [])
     × (map (λ (n : ℕ). step (freshMachine (λ d. 0)) (command (replicate n 0xFF) [] 0) .0 .number) (0 ∷ 5 ∷ 6 ∷ 7 ∷ 12 ∷ []) ≡ 1 ∷ 1 ∷ 0 ∷ 1 ∷ 1 ∷ [])
-unfolding execute left obey unless failed failedOutcome bareOutcome fresh step freshMachine freshDisk ordered seen settingWith providing failing
-    viewOf settingIn presentWith pick mediumOf isFloppy lacks blockOf entryOf judge judged tests
+unfolding execute onDrive left obey unless failed fresh step freshMachine freshDisk ordered seen settingWith providing failing
+    viewOf settingIn presentWith pick mediumOf isFloppy blockOf rowFor judge judged inOrder hitsOf isUnknown blockWrong
 six-bytes = (refl, refl)
 
 -- 21h has the block's address, also where only the last address is past the end
 block-address : (judge (blockOf (0x08 ∷ 0 ∷ 0 ∷ 31 ∷ 2 ∷ 0 ∷ [])) ready 0 512 ≡ Faulty 0x21 (record { 0 = 31 }))
     × (judge (blockOf (0x0A ∷ 0x1F ∷ 0xFF ∷ 0xFF ∷ 0 ∷ 0 ∷ [])) ready 0 0 ≡ Faulty 0x21 (record { 0 = 0x1FFFFF }))
-unfolding drive hard ready viewOf settingIn presentWith mediumOf isFloppy isIn rangesOf settingOf settingBy fieldsIn sizeFor fittedTo pick blockOf countOf entryOf
-    judge judged tests testsWith controlWrong lacks isValid reach
+unfolding drive hard ready viewOf settingIn presentWith mediumOf isFloppy isIn rangesOf settingOf settingBy fieldsIn sizeFor fittedTo pick blockOf countOf rowFor
+    judge judged inOrder hitsOf isUnknown blockWrong controlWrong withParams interleaveWrong pastEnd notSpared isValid reachOf sizeIn bytesOf isAmong checkNumber
 block-address = (refl, refl)
 
 -- ---- A block's fields

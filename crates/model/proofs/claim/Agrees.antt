@@ -1,4 +1,4 @@
--- What engine and plain machine have in common between two calls.
+-- What engine and plain machine have in common between two calls, and what a command keeps of it.
 use Prim.Native.Nat.{ℕ, _<_}
 use mathlib.Core.Path.{_≡_}
 use mathlib.Core.Bool.{false}
@@ -12,12 +12,11 @@ use Rattle.geometry.specs.declared.medium.Medium.{Medium}
 use Rattle.geometry.specs.declared.config.Setting.the-variants.{Valid, Invalid}
 use Rattle.geometry.specs.Medium.{mediumOf}
 use Rattle.geometry.specs.Config.{settingOf, labelConfig, labelSetting}
-use Rattle.model.specs.declared.block.Block.{Block}
 use Rattle.model.specs.declared.record.Drive.{Drive}
 use Rattle.model.specs.declared.record.Controller.{Controller}
 use Rattle.model.specs.Feed.{Reply}
 use Rattle.model.specs.Record.{driveAt, Effect}
-use Rattle.model.specs.Machine.{Disk, Machine, changed}
+use Rattle.model.specs.Machine.{Disk, Machine}
 use Rattle.model.specs.Claim.{replyOf}
 use Rattle.model.proofs.claim.Mirrors.{Mirrors}
 
@@ -27,24 +26,32 @@ pub data Stored (medium : Medium) (u : Disk) (image : List ℕ) : Option (List �
   something : (config : List ℕ) (p : Params) → settingOf medium config (length image) ≡ Valid p → labelConfig image ≡ config
       → labelSetting medium image ≡ Valid p → Mirrors p (u .kind) (u .inter) (u .held) image → Stored medium u image (some config)
 
+-- One drive, but for its sense.
 pub record Drives (medium : Medium) (entry : Drive) (image : List ℕ) (u : Disk) : Type 0 where
   pub len : u .len ≡ length image
   pub force : u .force ≡ pick (entry .known) (some (entry .config)) none
   pub pending : u .pending ≡ entry .pending
   -- what is in force and not pending is what is stored
-  pub settled : u .pending ≡ false → u .force ≡ u .stored
+  pub current : u .pending ≡ false → u .force ≡ u .stored
   pub stored : Stored medium u image (u .stored)
-  pub sense : length (entry .sense) ≡ 4
 
+-- The buffer and one drive: all that a command sees.
+pub record InStep (d : ℕ) (entry : Drive) (buffer image : List ℕ) (m : Machine) : Type 0 where
+  pub buffered : buffer ≡ m .buffer
+  pub whole : length buffer ≡ 512
+  pub sense : entry .sense ≡ m .senses d
+  pub four : length (entry .sense) ≡ 4
+  pub drive : Drives (mediumOf d) entry image (m .disks d)
+
+-- Every drive.
 pub record Agrees (c : Controller) (image : ℕ → List ℕ) (m : Machine) : Type 0 where
-  pub buffer : c .buffer ≡ m .buffer
-  pub whole : length (c .buffer) ≡ 512
   pub four : length (c .drives) ≡ 4
-  pub senses : (d : ℕ) → d < 4 → driveAt c d .sense ≡ m .senses d
-  pub drives : (d : ℕ) → d < 4 → Drives (mediumOf d) (driveAt c d) (image d) (m .disks d)
+  pub drives : (d : ℕ) → d < 4 → InStep d (driveAt c d) (c .buffer) (image d) m
 
--- What a command leaves in the engine and in the machine.
-pub record Follows (image : ℕ → List ℕ) (b : Block) (area : List ℕ) (e : Effect) (x : Reply × Machine) : Type 0 where
-  pub reply : replyOf (e .outcome .answer) (splice 0 (e .handed) area) ≡ x .0
-  pub agree : Agrees (e .outcome .controller) (changed image (b .drive) (e .image)) (x .1)
-  pub len : length (e .image) ≡ length (image (b .drive))
+-- What a command of drive d leaves in the engine and in the machine, which was m.
+pub record Follows (d : ℕ) (area image : List ℕ) (m : Machine) (e : Effect) (x : Reply × Machine) : Type 0 where
+  pub reply : replyOf (e .ending .answer) (splice 0 (e .handed) area) ≡ x .0
+  pub alike : InStep d (e .ending .entry) (e .buffer) (e .image) (x .1)
+  -- the machine's other drives stay
+  pub others : (j : ℕ) → (j ≡ d → ⊥) → (x .1 .senses j ≡ m .senses j) × (x .1 .disks j ≡ m .disks j)
+  pub len : length (e .image) ≡ length image

@@ -32,7 +32,7 @@ use Rattle.model.proofs.claim.Restarted.{agree-fresh}
 use Rattle.model.proofs.claim.Called.{call-answered}
 
 -- ---- what is held is found
-pub held-passed : (kind : Kind) (a : Lba) → isHeld kind ≡ true → judged (denied kind a) Passed ≡ Passed
+pub held-passed : (kind : Kind) (a : Lba) → isHeld kind ≡ true → judged (denied kind a) ≡ Passed
 unfolding isHeld judged denied isBad isTaken pick
 held-passed stateless a e = absurd (false≢true e)
 held-passed sound a e = refl
@@ -79,7 +79,7 @@ run-follows : (calls : List Call) (s : System) (m : Machine) → Agrees (s .cont
     → (engineReplies s calls ≡ replies m (map fed calls))
     × ((drive : ℕ) → drive < 4 → Holds (mediumOf drive) (atEnd m (map fed calls) .disks drive) (imageOf drive (engineAtEnd s calls .images)))
 unfolding engineReplies engineAtEnd replies atEnd Holds
-run-follows [] s m agree = (refl, λ drive h. stored-holds _ _ _ (agree .drives drive h .stored))
+run-follows [] s m agree = (refl, λ drive h. stored-holds _ _ _ (agree .drives drive h .drive .stored))
 run-follows (call ∷ calls) s m agree =
     let now = call-answered s call m agree in
     let later = run-follows calls (called s call .1) (step m (fed call) .1) (now .agree) in

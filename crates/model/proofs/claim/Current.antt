@@ -18,6 +18,7 @@ use Rattle.model.specs.declared.record.Drive.{Drive}
 use Rattle.model.specs.Record.{settingIn}
 use Rattle.model.specs.Engine.{viewOf}
 use Rattle.model.specs.Machine.{Disk, inForce, settingWith, seen}
+use Rattle.model.proofs.engine.Known.{known-valid}
 use Rattle.model.proofs.claim.Mirrors.{Mirrors, KeepsLabel}
 use Rattle.model.proofs.claim.Passages.{OnlyHeld}
 use Rattle.model.proofs.claim.Agrees.{Stored, nothing, something, Drives}
@@ -44,18 +45,6 @@ pub record InForce (medium : Medium) (entry : Drive) (image : List ℕ) (u : Dis
   pub setting : settingOf medium (entry .config) (length image) ≡ Valid p
   pub within : Within p
   pub fits : imageLength p ≤ length image
-
--- a setting comes from a configuration that is known
-known-valid : (medium : Medium) (known : Bool) (config : List ℕ) (len : ℕ) (p : Params) → pick known (settingOf medium config len) Invalid ≡ Valid p
-    → (pick known (some config) none ≡ some config) × (settingOf medium config len ≡ Valid p)
-unfolding pick
-known-valid medium true config len p e = (refl, e)
-known-valid medium false config len p e = absurd (let z : _≡_ {A = ℕ} 0 1 = cc in omega arith)
-
-pub setting-known : (medium : Medium) (entry : Drive) (image : ℕ) (p : Params) → settingIn medium entry image ≡ Valid p
-    → settingOf medium (entry .config) image ≡ Valid p
-unfolding settingIn
-setting-known medium entry image p e = known-valid medium (entry .known) (entry .config) image p e .1
 
 pub label-same : (medium : Medium) (image after : List ℕ) → KeepsLabel image after → labelSetting medium after ≡ labelSetting medium image
 unfolding labelSetting
@@ -90,7 +79,7 @@ module _ (medium : Medium) (entry : Drive) (image : List ℕ) (u : Disk) (drive 
 
   module _ (force : InForce medium entry image u p) (calm : u .pending ≡ false) where
     kept-config : u .stored ≡ some (entry .config)
-    kept-config = sym (drive .settled calm) ∙ force .is
+    kept-config = sym (drive .current calm) ∙ force .is
 
     pub mirrored : Mirrors p (u .kind) (u .inter) (u .held) image
     mirrored = stored-mirrors medium u image (entry .config) p (force .setting) (drive .stored) kept-config
@@ -102,11 +91,10 @@ module _ (medium : Medium) (entry : Drive) (image : List ℕ) (u : Disk) (drive 
       len = same .len ∙ drive .len ∙ sym (keeps .len);
       force = same .force ∙ drive .force;
       pending = same .pending ∙ drive .pending;
-      settled = λ e. same .force ∙ drive .settled (sym (same .pending) ∙ e) ∙ sym (same .stored);
+      current = λ e. same .force ∙ drive .current (sym (same .pending) ∙ e) ∙ sym (same .stored);
       stored =
           subst (Stored medium v after) (sym (same .stored))
           (stored-again medium u image (entry .config) p (force .setting) v after keeps mirror (drive .stored) kept-config);
-      sense = drive .sense;
     }
 
 -- what is in force does not bear on what is stored

@@ -24,29 +24,29 @@ use Rattle.geometry.proofs.Addresses.{track-in, sector-in, same-track}
 
 -- Either the machine uses its bytes and finding gives the slot that has them, or both give one code.
 pub data Found (p : Params) (kind : Track → Kind) (inter : Track → ℕ) (held : Lba → List ℕ) (image : List ℕ) (a : Lba) : Type 0 where
-  goes : isHeld (kind (trackOf p a)) ≡ true → judged (denied (kind (trackOf p a)) a) Passed ≡ Passed
+  goes : isHeld (kind (trackOf p a)) ≡ true → judged (denied (kind (trackOf p a)) a) ≡ Passed
       → sectorFound p (trackOf p a) (sectorOf p a) image
       ≡ Slot (homeOf (trackOf p a) (kind (trackOf p a))) (slotOf (p .sectors) (inter (trackOf p a)) (sectorOf p a))
       → slotData p (slotOf (p .sectors) (inter (trackOf p a)) (sectorOf p a)) (trackBytes p (homeOf (trackOf p a) (kind (trackOf p a))) image) ≡ held a
       → Found p kind inter held image a
-  stops : (code : ℕ) → (code ≡ 0 → ⊥) → judged (denied (kind (trackOf p a)) a) Passed ≡ Faulty code a
+  stops : (code : ℕ) → (code ≡ 0 → ⊥) → judged (denied (kind (trackOf p a)) a) ≡ Faulty code a
       → sectorFound p (trackOf p a) (sectorOf p a) image ≡ Fault code → Found p kind inter held image a
 
 -- ---- what a track's kind says by itself
 module _ (t : Track) (a : Lba) (state : Kind) where
-  goes-sound : state ≡ sound → (isHeld state ≡ true) × (judged (denied state a) Passed ≡ Passed) × (homeOf t state ≡ t)
+  goes-sound : state ≡ sound → (isHeld state ≡ true) × (judged (denied state a) ≡ Passed) × (homeOf t state ≡ t)
   unfolding isHeld judged denied isBad isTaken pick homeOf
   goes-sound e = rw e (refl, refl, refl)
 
-  goes-moved : (u : Track) → state ≡ moved u → (isHeld state ≡ true) × (judged (denied state a) Passed ≡ Passed) × (homeOf t state ≡ u)
+  goes-moved : (u : Track) → state ≡ moved u → (isHeld state ≡ true) × (judged (denied state a) ≡ Passed) × (homeOf t state ≡ u)
   unfolding isHeld judged denied isBad isTaken pick homeOf
   goes-moved u e = rw e (refl, refl, refl)
 
-  stops-bad : state ≡ bad → judged (denied state a) Passed ≡ Faulty 0x19 a
+  stops-bad : state ≡ bad → judged (denied state a) ≡ Faulty 0x19 a
   unfolding judged denied isBad isTaken pick
   stops-bad e = rw e
 
-  stops-taken : (u : Track) → state ≡ taken u → judged (denied state a) Passed ≡ Faulty 0x1C a
+  stops-taken : (u : Track) → state ≡ taken u → judged (denied state a) ≡ Faulty 0x1C a
   unfolding judged denied isBad isTaken pick
   stops-taken u e = rw e
 

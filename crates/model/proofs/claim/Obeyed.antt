@@ -1,7 +1,7 @@
 -- A command of six bytes: engine and machine answer alike and agree after it.
-use Prim.Native.Nat.{ℕ, _≤_, _<_}
+use Prim.Native.Nat.{ℕ, _≤_}
 use mathlib.Core.Path.{_≡_, refl, sym, ap, subst, _∙_}
-use mathlib.Core.List.{List}
+use mathlib.Core.List.{List, []}
 use lib.ListN.{length}
 use Rattle.geometry.specs.declared.params.Params.{Params}
 use Rattle.geometry.specs.declared.config.Setting.{Setting}
@@ -9,100 +9,104 @@ use Rattle.geometry.specs.declared.config.Setting.the-variants.{Valid, Invalid}
 use Rattle.geometry.specs.Medium.{mediumOf}
 use Rattle.model.specs.declared.block.Block.{Block}
 use Rattle.model.specs.declared.table.Command.{Command}
-use Rattle.model.specs.declared.table.Command.the-variants.{TestReady, Recalibrate, RequestSense, FormatDrive, CheckTrack, FormatTrack, FormatBadTrack, Read, Write, Seek, AssignAlternate, WriteBuffer, ReadBuffer, Initialize, Unknown}
-use Rattle.model.specs.declared.table.Entry.{Entry}
-use Rattle.model.specs.declared.record.Controller.{Controller}
+use Rattle.model.specs.declared.table.Command.the-variants.{Free, OnDisk, Unknown}
+use Rattle.model.specs.declared.table.FreeCommand.{FreeCommand}
+use Rattle.model.specs.declared.table.FreeCommand.the-variants.{RequestSense, WriteBuffer, ReadBuffer, Initialize}
+use Rattle.model.specs.declared.table.DiskCommand.{DiskCommand}
+use Rattle.model.specs.declared.table.DiskCommand.the-variants.{ArmWork, TrackWork, SectorWork}
+use Rattle.model.specs.declared.table.ArmCommand.the-variants.{TestReady, Recalibrate, Seek}
+use Rattle.model.specs.declared.table.TrackCommand.the-variants.{FormatDrive, CheckTrack, FormatTrack, FormatBadTrack, AssignAlternate}
+use Rattle.model.specs.declared.table.SectorCommand.the-variants.{Read, Write}
+use Rattle.model.specs.declared.record.Drive.{Drive}
+use Rattle.model.specs.declared.verdict.View.{View}
 use Rattle.model.specs.declared.verdict.Verdict.the-variants.{Passed}
-use Rattle.model.specs.Feed.{Reply}
-use Rattle.model.specs.Table.{entryOf}
-use Rattle.model.specs.Checks.{View, sizeIn, bytesOf, judge}
-use Rattle.model.specs.Record.{driveAt, Effect, unless}
-use Rattle.model.specs.Commands.{onDisk, carryOut}
-use Rattle.model.specs.Engine.{viewOf, obey}
-use Rattle.model.specs.Machine.{Machine, withParameters, carried, seen, ordered}
-use Rattle.model.proofs.claim.Agrees.{Agrees, Follows}
-use Rattle.model.proofs.claim.Ends.{done-follows, fault-follows, verdict-follows}
+use Rattle.model.specs.Table.{isAmong, checkNumber, TableRow, rowFor}
+use Rattle.model.specs.Checks.{sizeIn, bytesOf, judge}
+use Rattle.model.specs.Record.{unless, effect}
+use Rattle.model.specs.Commands.{doFree, doArm, doTrack, doSectors, doDisk, carryOut}
+use Rattle.model.specs.Engine.{obey}
+use Rattle.model.specs.Machine.{Machine, freely, seeking, onTracks, onSectors, withParameters, carried, seen, ordered}
 use Rattle.model.proofs.engine.Checked.{opcodeFor, row-of, Cleared, cleared, given-enough, not-pending, pending-first, interleave-in, track-cleared, count-cleared, one-track}
+use Rattle.model.proofs.claim.Agrees.{InStep, Follows}
+use Rattle.model.proofs.claim.Ends.{done-follows, fault-follows, verdict-follows}
 use Rattle.model.proofs.claim.Current.{view-same, InForce, in-force}
 use Rattle.model.proofs.claim.Simple.{sense-follows, buffer-read, buffer-written, initialize-follows}
 use Rattle.model.proofs.claim.OneTrack.{check-follows, sound-follows, bad-follows, assign-follows}
 use Rattle.model.proofs.claim.WholeDrive.{drive-follows}
 use Rattle.model.proofs.claim.Transfers.{read-follows, write-follows}
 
-module _ (b : Block) (given area : List ℕ) (c : Controller) (image : ℕ → List ℕ) (m : Machine) (four : b .drive < 4)
-    (agree : Agrees c image m) where
-  module _ (passed : judge b (seen (mediumOf (b .drive)) (m .disks (b .drive))) (length given) (length area) ≡ Passed) (command : Command)
-      (is : entryOf (b .opcode) .command ≡ command) where
-    row : entryOf (b .opcode) ≡ entryOf (opcodeFor command)
-    row = row-of (b .opcode) ∙ ap (λ (k : Command). entryOf (opcodeFor k)) is
+module _ (b : Block) (given area : List ℕ) (entry : Drive) (buffer image : List ℕ) (m : Machine)
+    (alike : InStep (b .drive) entry buffer image m) where
+  -- the row of the command, by an opcode that has it
+  row : (command : Command) → rowFor (b .opcode) .command ≡ command → rowFor (b .opcode) ≡ rowFor (opcodeFor command)
+  row command is = row-of (b .opcode) ∙ ap (λ (k : Command). rowFor (opcodeFor k)) is
 
-    -- a command that needs parameters: they are in force, and its row's checks have passed
-    disk-follows : (s : Setting) → seen (mediumOf (b .drive)) (m .disks (b .drive)) .setting ≡ s → (run : Params → Effect) (go : Params → Reply × Machine)
-        → ((p : Params) → InForce (mediumOf (b .drive)) (driveAt c (b .drive)) (image (b .drive)) (m .disks (b .drive)) p
-        → Cleared (entryOf (opcodeFor command)) b p (m .disks (b .drive) .pending) (length given) → Follows image b area (run p) (go p))
-        → Follows image b area (onDisk s b c (image (b .drive)) run) (withParameters s b m go)
-    unfolding onDisk withParameters seen
-    disk-follows Invalid e run go each = fault-follows image b area c m four agree 0x0A (b .address)
-    disk-follows (Valid p) e run go each =
-        each p (in-force _ _ _ (m .disks (b .drive)) (agree .drives (b .drive) four) p e)
-        (subst (λ (r : Entry). Cleared r b p (m .disks (b .drive) .pending) (length given)) row
+  module _ (passed : judge b (seen (mediumOf (b .drive)) (m .disks (b .drive))) (length given) (length area) ≡ Passed) where
+    -- ---- no parameters
+    free-follows : (s : Setting) (command : FreeCommand) → seen (mediumOf (b .drive)) (m .disks (b .drive)) .setting ≡ s
+        → rowFor (b .opcode) .command ≡ Free command
+        → Follows (b .drive) area image m (doFree b given entry buffer image command) (freely b given m (m .disks (b .drive)) command)
+    unfolding freely rowFor opcodeFor bytesOf
+    free-follows s RequestSense e is = sense-follows b given area entry buffer image m alike
+    free-follows s WriteBuffer e is =
+        buffer-written b given area entry buffer image m alike
+        (subst (λ (r : TableRow). bytesOf (r .takes) b (seen (mediumOf (b .drive)) (m .disks (b .drive)) .setting) ≤ length given) (row (Free WriteBuffer) is)
+        (given-enough b (seen (mediumOf (b .drive)) (m .disks (b .drive))) (length given) (length area) passed))
+    free-follows s ReadBuffer e is = buffer-read b given area entry buffer image m alike
+    free-follows s Initialize e is = initialize-follows b given area entry buffer image m alike
+
+    -- ---- parameters p in force, and the checks of the command's row passed
+    module _ (p : Params) (force : InForce (mediumOf (b .drive)) entry image (m .disks (b .drive)) p) where
+      disk-follows : (command : DiskCommand)
+          → Cleared (rowFor (opcodeFor (OnDisk command))) b p (m .disks (b .drive) .pending) (length given)
+          → Follows (b .drive) area image m (doDisk b p given entry buffer image command) (withParameters b p given m (m .disks (b .drive)) command)
+      unfolding doDisk doArm doTrack doSectors withParameters seeking onTracks onSectors rowFor opcodeFor isAmong checkNumber bytesOf sizeIn
+      disk-follows (ArmWork TestReady) clear = done-follows b area image m entry buffer alike
+      disk-follows (ArmWork Recalibrate) clear = done-follows b area image m entry buffer alike
+      disk-follows (ArmWork Seek) clear = done-follows b area image m entry buffer alike
+      disk-follows (TrackWork FormatDrive) clear =
+          drive-follows b area entry buffer image m alike p force (pending-first (force .within) clear refl)
+          (track-cleared (force .within) clear refl refl) (interleave-in (force .within) clear refl)
+      disk-follows (TrackWork CheckTrack) clear =
+          let t = one-track (force .within) clear refl refl refl refl refl in
+          check-follows b area entry buffer image m alike p force (t .calm) (t .ours) (t .inter)
+      disk-follows (TrackWork FormatTrack) clear =
+          let t = one-track (force .within) clear refl refl refl refl refl in
+          sound-follows b area entry buffer image m alike p force (t .calm) (t .ours) (t .inter)
+      disk-follows (TrackWork FormatBadTrack) clear =
+          let t = one-track (force .within) clear refl refl refl refl refl in
+          bad-follows b area entry buffer image m alike p force (t .calm) (t .ours) (t .inter)
+      disk-follows (TrackWork AssignAlternate) clear =
+          let t = one-track (force .within) clear refl refl refl refl refl in
+          assign-follows b area entry buffer image m alike p force (t .calm) (t .ours) (t .inter) given
+      disk-follows (SectorWork Read) clear =
+          read-follows b area entry buffer image m alike p force (not-pending (force .within) clear refl refl)
+          (count-cleared (force .within) clear refl refl)
+      disk-follows (SectorWork Write) clear =
+          write-follows b area entry buffer image m alike p force (not-pending (force .within) clear refl refl)
+          (count-cleared (force .within) clear refl refl) given (clear .enough)
+
+    carried-follows : (s : Setting) → seen (mediumOf (b .drive)) (m .disks (b .drive)) .setting ≡ s
+        → (command : Command) → rowFor (b .opcode) .command ≡ command
+        → Follows (b .drive) area image m (carryOut b s given entry buffer image command) (carried b s given m (m .disks (b .drive)) command)
+    unfolding carryOut carried seen
+    carried-follows s e (Free command) is = free-follows s command e is
+    carried-follows Invalid e (OnDisk command) is = fault-follows b area image m entry buffer alike 0x0A (b .address)
+    carried-follows (Valid p) e (OnDisk command) is =
+        disk-follows p (in-force _ _ _ (m .disks (b .drive)) (alike .drive) p e) command
+        (subst (λ (r : TableRow). Cleared r b p (m .disks (b .drive) .pending) (length given)) (row (OnDisk command) is)
         (cleared b (seen (mediumOf (b .drive)) (m .disks (b .drive))) (length given) (length area) passed p e))
+    carried-follows s e Unknown is = fault-follows b area image m entry buffer alike 0x20 (b .address)
 
-  carried-follows : judge b (seen (mediumOf (b .drive)) (m .disks (b .drive))) (length given) (length area) ≡ Passed
-      → (command : Command) → entryOf (b .opcode) .command ≡ command
-      → Follows image b area (carryOut b (seen (mediumOf (b .drive)) (m .disks (b .drive)) .setting) given c (image (b .drive)) command)
-      (carried b (seen (mediumOf (b .drive)) (m .disks (b .drive)) .setting) given m (m .disks (b .drive)) command)
-  unfolding carryOut carried entryOf opcodeFor bytesOf sizeIn
-  carried-follows passed TestReady is = done-follows image b area c m four agree
-  carried-follows passed Recalibrate is = done-follows image b area c m four agree
-  carried-follows passed RequestSense is = sense-follows image b area c m four agree
-  carried-follows passed FormatDrive is =
-      disk-follows passed FormatDrive is _ refl _ _ (λ p force clear.
-      drive-follows image b area c m four agree p force (pending-first (force .within) clear refl) (track-cleared (force .within) clear refl refl)
-      (interleave-in (force .within) clear refl))
-  carried-follows passed CheckTrack is =
-      disk-follows passed CheckTrack is _ refl _ _ (λ p force clear.
-      let t = one-track (force .within) clear refl refl refl refl refl in
-      check-follows image b area c m four agree p force (t .calm) (t .ours) (t .inter))
-  carried-follows passed FormatTrack is =
-      disk-follows passed FormatTrack is _ refl _ _ (λ p force clear.
-      let t = one-track (force .within) clear refl refl refl refl refl in
-      sound-follows image b area c m four agree p force (t .calm) (t .ours) (t .inter))
-  carried-follows passed FormatBadTrack is =
-      disk-follows passed FormatBadTrack is _ refl _ _ (λ p force clear.
-      let t = one-track (force .within) clear refl refl refl refl refl in
-      bad-follows image b area c m four agree p force (t .calm) (t .ours) (t .inter))
-  carried-follows passed Read is =
-      disk-follows passed Read is _ refl _ _ (λ p force clear.
-      read-follows image b area c m four agree p force (not-pending (force .within) clear refl refl)
-      (count-cleared (force .within) clear refl refl))
-  carried-follows passed Write is =
-      disk-follows passed Write is _ refl _ _ (λ p force clear.
-      write-follows image b area c m four agree p force (not-pending (force .within) clear refl refl)
-      (count-cleared (force .within) clear refl refl) given (clear .enough))
-  carried-follows passed Seek is = done-follows image b area c m four agree
-  carried-follows passed AssignAlternate is =
-      disk-follows passed AssignAlternate is _ refl _ _ (λ p force clear.
-      let t = one-track (force .within) clear refl refl refl refl refl in
-      assign-follows image b area c m four agree p force (t .calm) (t .ours) (t .inter) given)
-  carried-follows passed WriteBuffer is =
-      buffer-written image b area c m four agree given
-      (subst (λ (r : Entry). bytesOf (r .takes) b (seen (mediumOf (b .drive)) (m .disks (b .drive)) .setting) ≤ length given) (row passed WriteBuffer is)
-      (given-enough b (seen (mediumOf (b .drive)) (m .disks (b .drive))) (length given) (length area) passed))
-  carried-follows passed ReadBuffer is = buffer-read image b area c m four agree
-  carried-follows passed Initialize is = initialize-follows image b area c m four agree given
-  carried-follows passed Unknown is = fault-follows image b area c m four agree 0x20 (b .address)
-
-pub obey-follows : (b : Block) (given area : List ℕ) (c : Controller) (image : ℕ → List ℕ) (m : Machine) → b .drive < 4 → Agrees c image m
-    → Follows image b area (obey b given (length area) c (image (b .drive))) (ordered b given (length area) m (m .disks (b .drive)))
-unfolding obey ordered viewOf
-obey-follows b given area c image m four agree =
-    let u = m .disks (b .drive) in
-    subst
-    (λ (v : View). Follows image b area
-    (unless (judge b v (length given) (length area)) b c (image (b .drive))
-    (carryOut b (v .setting) given c (image (b .drive)) (entryOf (b .opcode) .command)))
-    (ordered b given (length area) m u))
-    (sym (view-same _ _ _ u (agree .drives (b .drive) four)))
-    (verdict-follows image b area c m four agree (judge b (seen (mediumOf (b .drive)) u) (length given) (length area)) _ _
-    (λ passed. carried-follows b given area c image m four agree passed _ refl))
+  pub obey-follows : Follows (b .drive) area image m (obey b given (length area) entry buffer image) (ordered b given (length area) m (m .disks (b .drive)))
+  unfolding obey ordered
+  obey-follows =
+      let u = m .disks (b .drive) in
+      subst
+      (λ (v : View). Follows (b .drive) area image m
+      (unless (judge b v (length given) (length area)) (b .drive) entry (λ e. effect e buffer [] image)
+      (carryOut b (v .setting) given entry buffer image (rowFor (b .opcode) .command)))
+      (ordered b given (length area) m u))
+      (sym (view-same _ _ _ u (alike .drive)))
+      (verdict-follows b area image m entry buffer alike (judge b (seen (mediumOf (b .drive)) u) (length given) (length area)) _ _
+      (λ passed. carried-follows passed _ refl _ refl))

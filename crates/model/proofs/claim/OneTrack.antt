@@ -22,12 +22,12 @@ use Rattle.geometry.specs.Medium.{mediumOf, isFloppy}
 use Rattle.geometry.proofs.Addresses.{track-in}
 use Rattle.track.specs.declared.state.State.the-variants.{Sound, Bad}
 use Rattle.model.specs.declared.block.Block.{Block}
-use Rattle.model.specs.declared.record.Controller.{Controller}
+use Rattle.model.specs.declared.record.Drive.{Drive}
 use Rattle.model.specs.declared.verdict.Verdict.the-variants.{Passed}
 use Rattle.model.specs.Block.{fromBuffer, alternateOf}
 use Rattle.model.specs.Checks.{judged}
-use Rattle.model.specs.Record.{driveAt, good}
-use Rattle.model.specs.Commands.{plainByte, plainFill, fillOf}
+use Rattle.model.specs.Record.{good, made}
+use Rattle.model.specs.Commands.{plainByte, plainFill, fillOf, asEffect}
 use Rattle.model.specs.Commands.{checkTrack as checkOn, formatTrack as formatOn, assignAlternate as assignOn}
 use Rattle.model.specs.Machine.{Kind, Disk, Machine, sound, bad, withDisk, becomes, filled, paired, unassignable, isMoved, isTaken, well, fillingOn, filling, checkTrack, formatTrack, formatBadTrack, addressGiven, assignTo, assignAlternate}
 use Rattle.model.proofs.claim.Mirrors.{Mirrors}
@@ -35,8 +35,8 @@ use Rattle.model.proofs.claim.States.{alone-mirrored, check-mirrored, a
 use Rattle.model.proofs.engine.Outside.{plain-length}
 use Rattle.model.proofs.claim.Remaking.{Remade, sound-remade, bad-remade, assign-remade}
 use Rattle.model.proofs.claim.Passages.{OnlyHeld}
-use Rattle.model.proofs.claim.Agrees.{Agrees, Follows}
-use Rattle.model.proofs.claim.Ends.{agree-disk, well-follows, done-follows, verdict-follows}
+use Rattle.model.proofs.claim.Agrees.{InStep, Follows}
+use Rattle.model.proofs.claim.Ends.{done-drive, well-follows, done-follows, made-follows, ending-follows}
 use Rattle.model.proofs.engine.Judged.{passed-on}
 use Rattle.model.proofs.claim.Current.{InForce, mirrored, drive-again}
 
@@ -48,21 +48,21 @@ unfolding isFloppy plainFill plainByte fillingOn
 fill-on HardDisk b p m = rw (and-true (fromBuffer b))
 fill-on Floppy b p m = rw (and-false (fromBuffer b)) (pick-false false _ _ refl)
 
-module _ (b : Block) (p : Params) (c : Controller) (image : ℕ → List ℕ) (m : Machine) (agree : Agrees c image m) where
-  pub fill-same : fillOf b p (c .buffer) ≡ filling b p m
+module _ (b : Block) (p : Params) (entry : Drive) (buffer image : List ℕ) (m : Machine) (alike : InStep (b .drive) entry buffer image m) where
+  pub fill-same : fillOf b p buffer ≡ filling b p m
   unfolding fillOf filling part
-  fill-same = rw (agree .buffer) (fill-on (mediumOf (b .drive)) b p m)
+  fill-same = rw (alike .buffered) (fill-on (mediumOf (b .drive)) b p m)
 
   pub fill-sized : Within p → length (filling b p m) ≡ p .size
   unfolding fillOf
   fill-sized w =
       ap length (sym fill-same)
-      ∙ pick-both (λ (l : List ℕ). length l ≡ p .size) _ _ _ (length-part 0 (p .size) (c .buffer) (omega (arith, w .size-most, agree .whole)))
+      ∙ pick-both (λ (l : List ℕ). length l ≡ p .size) _ _ _ (length-part 0 (p .size) buffer (omega (arith, w .size-most, alike .whole)))
       (plain-length (mediumOf (b .drive)) p)
 
-paired-passed : (kind : Kind) (a : Lba) → judged (paired kind a) Passed ≡ Passed → (isMoved kind ≡ false) × (isTaken kind ≡ false)
+paired-passed : (kind : Kind) (a : Lba) → judged (paired kind a) ≡ Passed → (isMoved kind ≡ false) × (isTaken kind ≡ false)
 unfolding paired
-paired-passed kind a e = let t = passed-on _ _ _ _ _ e in (t .0, passed-on _ _ _ _ _ (t .1) .0)
+paired-passed kind a e = let t = passed-on _ _ _ _ e in (t .0, passed-on _ _ _ _ (t .1) .0)
 
 -- tracks A and B at addresses a and b, where an assignment is not denied
 record Assignable (kind : Track → Kind) (p : Params) (a b : Lba) : Type 0 where
@@ -73,16 +73,16 @@ record Assignable (kind : Track → Kind) (p : Params) (a b : Lba) : Type 0 wher
   takenB : isTaken (kind (trackOf p b)) ≡ false
   movedB : isMoved (kind (trackOf p b)) ≡ false
 
-assignable : (kind : Track → Kind) (p : Params) (first : ℕ) (a b : Lba) → judged (unassignable kind p first a b) Passed ≡ Passed → Assignable kind p a b
+assignable : (kind : Track → Kind) (p : Params) (first : ℕ) (a b : Lba) → judged (unassignable kind p first a b) ≡ Passed → Assignable kind p a b
 unfolding unassignable
 assignable kind p first a b e =
-    let t₁ = passed-on _ _ _ _ _ e in
-    let t₂ = passed-on _ _ _ _ _ (t₁ .1) in
-    let t₃ = passed-on _ _ _ _ _ (t₂ .1) in
-    let t₄ = passed-on _ _ _ _ _ (t₃ .1) in
-    let t₅ = passed-on _ _ _ _ _ (t₄ .1) in
-    let t₆ = passed-on _ _ _ _ _ (t₅ .1) in
-    let t₇ = passed-on _ _ _ _ _ (t₆ .1) in
+    let t₁ = passed-on _ _ _ _ e in
+    let t₂ = passed-on _ _ _ _ (t₁ .1) in
+    let t₃ = passed-on _ _ _ _ (t₂ .1) in
+    let t₄ = passed-on _ _ _ _ (t₃ .1) in
+    let t₅ = passed-on _ _ _ _ (t₄ .1) in
+    let t₆ = passed-on _ _ _ _ (t₅ .1) in
+    let t₇ = passed-on _ _ _ _ (t₆ .1) in
     record {
       inside = leb-false _ _ (t₂ .0);
       apart = eqb-false _ _ (t₅ .0);
@@ -106,60 +106,63 @@ unfolding becomes filled assignTo
 assign-only p A B inter fill u = record { len = refl; stored = refl; force = refl; pending = refl }
 
 -- ---- a command on parameters in force that are not pending
-module _ (image : ℕ → List ℕ) (b : Block) (area : List ℕ) (c : Controller) (m : Machine) (four : b .drive < 4) (agree : Agrees c image m)
-    (p : Params) (force : InForce (mediumOf (b .drive)) (driveAt c (b .drive)) (image (b .drive)) (m .disks (b .drive)) p) (calm : m .disks (b .drive) .pending ≡ false) where
-  mirror : Mirrors p (m .disks (b .drive) .kind) (m .disks (b .drive) .inter) (m .disks (b .drive) .held) (image (b .drive))
-  mirror = mirrored _ _ _ _ (agree .drives (b .drive) four) p force calm
+module _ (b : Block) (area : List ℕ) (entry : Drive) (buffer image : List ℕ) (m : Machine) (alike : InStep (b .drive) entry buffer image m)
+    (p : Params) (force : InForce (mediumOf (b .drive)) entry image (m .disks (b .drive)) p) (calm : m .disks (b .drive) .pending ≡ false) where
+  mirror : Mirrors p (m .disks (b .drive) .kind) (m .disks (b .drive) .inter) (m .disks (b .drive) .held) image
+  mirror = mirrored _ _ _ _ (alike .drive) p force calm
 
-  remade-follows : (v : Disk) (after : List ℕ) → OnlyHeld (m .disks (b .drive)) v → Remade p v (image (b .drive)) after
-      → Follows image b area (good b 0 [] c after) (well b 0 [] (withDisk (b .drive) v m))
+  remade-follows : (v : Disk) (after : List ℕ) → OnlyHeld (m .disks (b .drive)) v → Remade p v image after
+      → Follows (b .drive) area image m (asEffect buffer (made (good (b .drive) 0 0 entry) after)) (well b 0 [] (withDisk (b .drive) v m))
+  unfolding asEffect
   remade-follows v after same made =
-      well-follows image b area four 0 [] c after (withDisk (b .drive) v m) (made .keeps .len)
-      (agree-disk c image m agree (b .drive) four after v
-      (drive-again _ _ _ _ (agree .drives (b .drive) four) p force calm v after same (made .keeps) (made .mirror)))
+      well-follows b area image m entry buffer after (withDisk (b .drive) v m)
+      (done-drive _ entry buffer image m alike entry after v
+      (drive-again _ _ _ _ (alike .drive) p force calm v after same (made .keeps) (made .mirror)) (made .keeps .len)) 0 []
 
   module _ (ours : trackOf p (b .address) .0 < trackCount p) (inter : (0 < b .extra) × (b .extra < p .sectors)) where
-    pub check-follows : Follows image b area (checkOn b p c (image (b .drive))) (checkTrack b p m (m .disks (b .drive)))
-    unfolding checkOn checkTrack
+    pub check-follows : Follows (b .drive) area image m (asEffect buffer (made (checkOn b p entry image) image)) (checkTrack b p m (m .disks (b .drive)))
+    unfolding checkOn checkTrack asEffect
     check-follows =
-        rw (check-mirrored p (force .within) _ _ _ (image (b .drive)) mirror (trackOf p (b .address)) (b .address) (b .extra) Passed ours inter)
-        (verdict-follows image b area c m four agree _ _ _ (λ e. done-follows image b area c m four agree))
+        rw (check-mirrored p (force .within) _ _ _ image mirror (trackOf p (b .address)) (b .address) (b .extra) ours inter)
+        (ending-follows b area image m entry buffer alike _ _ _ (λ e. done-follows b area image m entry buffer alike))
 
-    pub sound-follows : Follows image b area (formatOn b p Sound (fillOf b p (c .buffer)) c (image (b .drive))) (formatTrack b p m (m .disks (b .drive)))
+    pub sound-follows : Follows (b .drive) area image m (asEffect buffer (formatOn b p Sound (fillOf b p buffer) entry image)) (formatTrack b p m (m .disks (b .drive)))
     unfolding formatOn formatTrack
     sound-follows =
         let u = m .disks (b .drive) in
         let t = trackOf p (b .address) in
-        rw (alone-mirrored p (force .within) _ _ _ (image (b .drive)) mirror t (b .address) ours, fill-same b p c image m agree)
-        (verdict-follows image b area c m four agree _ _ _ (λ e.
+        rw (alone-mirrored p (force .within) _ _ _ image mirror t (b .address) ours, fill-same b p entry buffer image m alike)
+        (made-follows b area image m entry buffer alike _ _ _ (λ e.
         let free = paired-passed (u .kind t) (b .address) e in
         remade-follows (filled p t (filling b p m) (becomes t sound (b .extra) u)) _ (filled-only p t _ sound (b .extra) u)
-        (sound-remade b p (force .within) inter (filling b p m) (fill-sized b p c image m agree (force .within)) u (image (b .drive)) (force .fits) mirror
+        (sound-remade b p (force .within) inter (filling b p m) (fill-sized b p entry buffer image m alike (force .within)) u image (force .fits) mirror
         t ours (free .0) (free .1))))
 
-    pub bad-follows : Follows image b area (formatOn b p Bad (plainFill (mediumOf (b .drive)) p) c (image (b .drive))) (formatBadTrack b p m (m .disks (b .drive)))
+    pub bad-follows : Follows (b .drive) area image m (asEffect buffer (formatOn b p Bad (plainFill (mediumOf (b .drive)) p) entry image))
+        (formatBadTrack b p m (m .disks (b .drive)))
     unfolding formatOn formatBadTrack
     bad-follows =
         let u = m .disks (b .drive) in
         let t = trackOf p (b .address) in
-        rw (alone-mirrored p (force .within) _ _ _ (image (b .drive)) mirror t (b .address) ours)
-        (verdict-follows image b area c m four agree _ _ _ (λ e.
+        rw (alone-mirrored p (force .within) _ _ _ image mirror t (b .address) ours)
+        (made-follows b area image m entry buffer alike _ _ _ (λ e.
         let free = paired-passed (u .kind t) (b .address) e in
         remade-follows (becomes t bad (b .extra) u) _ (becomes-only t bad (b .extra) u)
-        (bad-remade b p (force .within) inter (plainFill (mediumOf (b .drive)) p) (plain-length (mediumOf (b .drive)) p) u (image (b .drive)) (force .fits) mirror t ours (free .0) (free .1))))
+        (bad-remade b p (force .within) inter (plainFill (mediumOf (b .drive)) p) (plain-length (mediumOf (b .drive)) p) u image (force .fits) mirror
+        t ours (free .0) (free .1))))
 
     pub assign-follows : (given : List ℕ)
-        → Follows image b area (assignOn b p given c (image (b .drive))) (assignAlternate b p given m (m .disks (b .drive)))
+        → Follows (b .drive) area image m (asEffect buffer (assignOn b p buffer given entry image)) (assignAlternate b p given m (m .disks (b .drive)))
     unfolding assignOn assignAlternate alternateOf addressGiven
     assign-follows given =
         let u = m .disks (b .drive) in
         let A = trackOf p (b .address) in
         let B = trackOf p (alternateOf given) in
-        let tests = assign-mirrored p (force .within) _ _ _ (image (b .drive)) mirror (byte given 0) (b .address) (alternateOf given) Passed ours in
-        rw (tests, fill-same b p c image m agree)
-        (verdict-follows image b area c m four agree _ _ _ (λ e.
+        let tests = assign-mirrored p (force .within) _ _ _ image mirror (byte given 0) (b .address) (alternateOf given) ours in
+        rw (tests, fill-same b p entry buffer image m alike)
+        (made-follows b area image m entry buffer alike _ _ _ (λ e.
         let free = assignable (u .kind) p (byte given 0) (b .address) (alternateOf given) e in
         remade-follows (assignTo p A B (b .extra) (filling b p m) u) _ (assign-only p A B (b .extra) (filling b p m) u)
-        (assign-remade b p (force .within) inter (filling b p m) (fill-sized b p c image m agree (force .within)) u (image (b .drive)) (force .fits) mirror
+        (assign-remade b p (force .within) inter (filling b p m) (fill-sized b p entry buffer image m alike (force .within)) u image (force .fits) mirror
         A B ours (track-in p (force .within) (alternateOf given) (free .inside)) (free .apart)
         (free .movedA) (free .takenA) (free .takenB) (free .movedB))))

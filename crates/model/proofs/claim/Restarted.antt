@@ -11,14 +11,13 @@ use Rattle.geometry.specs.declared.params.Params.{Params}
 use Rattle.geometry.specs.declared.config.Setting.the-variants.{Valid, Invalid}
 use Rattle.geometry.specs.Medium.{mediumOf}
 use Rattle.geometry.specs.Config.{labelConfig, labelSetting}
-use Rattle.model.specs.declared.record.Drive.{Drive}
 use Rattle.model.specs.declared.record.Controller.{Controller}
 use Rattle.model.specs.Feed.{reset}
 use Rattle.model.specs.Record.{blankDrive, driveAt}
 use Rattle.model.specs.Engine.{imageOf, loadedBy, loaded, fresh}
 use Rattle.model.specs.Machine.{Disk, Machine, freshDisk, freshMachine, inForce, restored, step}
 use Rattle.model.specs.Claim.{beginMachine}
-use Rattle.model.proofs.claim.Agrees.{Stored, nothing, something, Drives, Agrees}
+use Rattle.model.proofs.claim.Agrees.{Stored, nothing, something, Drives, InStep, Agrees}
 use Rattle.model.proofs.claim.Current.{stored-forced}
 
 -- ---- the drives that Reset makes
@@ -56,9 +55,8 @@ module _ (drive : ℕ) (u : Disk) (image : List ℕ) (len : u .len ≡ length im
         len = len;
         force = from .0;
         pending = sym (from .1);
-        settled = λ e. refl;
+        current = λ e. refl;
         stored = stored-forced (mediumOf drive) u image (u .stored) false stored;
-        sense = ap length (from .2);
       }
 
   loaded-sense : Stored (mediumOf drive) u image (u .stored) → loaded drive image .sense ≡ replicate 4 0
@@ -70,17 +68,21 @@ module _ (images : List (List ℕ)) (m : Machine) where
       → ((d : ℕ) → d < 4 → Stored (mediumOf d) (m .disks d) (imageOf d images) (m .disks d .stored))
       → Agrees (fresh images) (λ d. imageOf d images) (step m reset .1)
   unfolding step fresh
-  reset-follows len stored = record {
-    buffer = refl;
-    whole = length-replicate {A = ℕ} 512 0;
-    four = refl;
-    senses = λ d h.
-        ap (λ (e : Drive). e .sense) (fresh-drive images d h) ∙ loaded-sense d (m .disks d) (imageOf d images) (len d h) (stored d h);
-    drives = λ d h. rw (fresh-drive images d h) (drive-restored d (m .disks d) (imageOf d images) (len d h) (stored d h));
-  }
+  reset-follows len stored = record { four = refl; drives = drives }
+    where
+      drives : (d : ℕ) → d < 4 → InStep d (driveAt (fresh images) d) (replicate 512 0) (imageOf d images) (step m reset .1)
+      drives d h =
+          let zero-sense = loaded-sense d (m .disks d) (imageOf d images) (len d h) (stored d h) in
+          rw (fresh-drive images d h) (record {
+            buffered = refl;
+            whole = length-replicate {A = ℕ} 512 0;
+            sense = zero-sense;
+            four = ap length zero-sense;
+            drive = drive-restored d (m .disks d) (imageOf d images) (len d h) (stored d h);
+          })
 
   pub agree-reset : (c : Controller) → Agrees c (λ d. imageOf d images) m → Agrees (fresh images) (λ d. imageOf d images) (step m reset .1)
-  agree-reset c agree = reset-follows (λ d h. agree .drives d h .len) (λ d h. agree .drives d h .stored)
+  agree-reset c agree = reset-follows (λ d h. agree .drives d h .drive .len) (λ d h. agree .drives d h .drive .stored)
 
 -- a fresh machine is one after Reset
 module _ (images : List (List ℕ)) (none-stored : (d : ℕ) → d < 4 → labelSetting (mediumOf d) (imageOf d images) ≡ Invalid) where

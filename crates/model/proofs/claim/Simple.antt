@@ -1,5 +1,5 @@
--- The commands that leave the image: Request Sense, the buffer's, Initialize.
-use Prim.Native.Nat.{ℕ, _≤_, _<_}
+-- The commands that need no parameters: Request Sense, the buffer's, Initialize.
+use Prim.Native.Nat.{ℕ, _≤_}
 use mathlib.Core.Path.{_≡_, refl, sym, ap, subst, _∙_}
 use mathlib.Core.Bool.{Bool, true, not, false≢true}
 use mathlib.Core.Option.{Option, none, some}
@@ -19,15 +19,14 @@ use Rattle.geometry.specs.Medium.{mediumOf}
 use Rattle.geometry.specs.Config.{settingOf, labelSetting, labelHolds}
 use Rattle.geometry.proofs.Labels.{holds-none, holds-same}
 use Rattle.model.specs.declared.block.Block.{Block}
+use Rattle.model.specs.declared.table.FreeCommand.the-variants.{RequestSense, WriteBuffer, ReadBuffer, Initialize}
 use Rattle.model.specs.declared.record.Drive.{Drive}
-use Rattle.model.specs.declared.record.Controller.{Controller}
-use Rattle.model.specs.Record.{driveAt, withDrive, withBuffer, good, goodOutcome}
-use Rattle.model.specs.Commands.{requestSense, initialized, initializedBy, initialize}
-use Rattle.model.specs.Machine.{Disk, Machine, withDisk, inForce, well, isStored, initializeBy}
-use Rattle.model.specs.Machine.{withBuffer as buffering}
+use Rattle.model.specs.Record.{effect}
+use Rattle.model.specs.Commands.{initialized, initializedBy, initialize, doFree}
+use Rattle.model.specs.Machine.{Disk, Machine, withBuffer, inForce, well, isStored, initializeBy, freely}
 use Rattle.model.specs.Claim.{replyOf}
-use Rattle.model.proofs.claim.Agrees.{Stored, nothing, something, Drives, Agrees, Follows}
-use Rattle.model.proofs.claim.Ends.{front, agree-kept, agree-buffer, agree-drive, well-follows, fault-follows}
+use Rattle.model.proofs.claim.Agrees.{Stored, nothing, something, Drives, InStep, Follows}
+use Rattle.model.proofs.claim.Ends.{front, done-nothing, done-buffer, done-drive, well-follows, fault-follows}
 use Rattle.model.proofs.claim.Current.{stored-forced}
 
 -- a valid label holds what is stored, and nothing else
@@ -51,53 +50,48 @@ drive-initialized medium config pending entry image u drive same = record {
   len = drive .len;
   force = refl;
   pending = sym same;
-  settled = λ e. is-stored (u .stored) config (not-false _ e);
+  current = λ e. is-stored (u .stored) config (not-false _ e);
   stored = stored-forced medium u image (some config) _ (drive .stored);
-  sense = drive .sense;
 }
 
-initialized-sense : (config : List ℕ) (pending : Bool) (entry : Drive) → initialized config pending entry .sense ≡ entry .sense
-unfolding initialized
-initialized-sense config pending entry = refl
-
-module _ (image : ℕ → List ℕ) (b : Block) (area : List ℕ) (c : Controller) (m : Machine) (four : b .drive < 4) (agree : Agrees c image m) where
-  pub sense-follows : Follows image b area (requestSense b c (image (b .drive))) (well b 0 (m .senses (b .drive)) m .0, m)
-  unfolding requestSense good goodOutcome well replyOf
-  sense-follows = rw (agree .senses (b .drive) four) (record {
-    reply = rw (front (m .senses (b .drive)) area);
-    agree = agree-kept (b .drive) c image m agree;
+module _ (b : Block) (given area : List ℕ) (entry : Drive) (buffer image : List ℕ) (m : Machine) (alike : InStep (b .drive) entry buffer image m) where
+  pub sense-follows : Follows (b .drive) area image m (doFree b given entry buffer image RequestSense) (well b 0 (m .senses (b .drive)) m .0, m)
+  unfolding doFree well replyOf
+  sense-follows = record {
+    reply = rw (alike .sense, front (m .senses (b .drive)) area);
+    alike = alike;
+    others = λ j ne. (refl, refl);
     len = refl;
-  })
+  }
 
-  pub buffer-read : Follows image b area (good b 0 (c .buffer) c (image (b .drive))) (well b 0 (m .buffer) m)
+  pub buffer-read : Follows (b .drive) area image m (doFree b given entry buffer image ReadBuffer) (well b 0 (m .buffer) m)
+  unfolding doFree
   buffer-read =
-      subst (λ (bytes : List ℕ). Follows image b area (good b 0 (c .buffer) c (image (b .drive))) (well b 0 bytes m)) (agree .buffer)
-      (well-follows image b area four 0 (c .buffer) c (image (b .drive)) m refl (agree-kept (b .drive) c image m agree))
+      subst (λ (bytes : List ℕ). Follows (b .drive) area image m (doFree b given entry buffer image ReadBuffer) (well b 0 bytes m)) (alike .buffered)
+      (well-follows b area image m entry buffer image m (done-nothing _ entry buffer image m alike) 0 buffer)
 
-  pub buffer-written : (given : List ℕ) → 512 ≤ length given
-      → Follows image b area (good b 0 [] (withBuffer (part 0 512 given) c) (image (b .drive))) (well b 0 [] (buffering (take 512 given) m))
-  unfolding part
-  buffer-written given enough =
-      well-follows image b area four 0 [] (withBuffer (take 512 given) c) (image (b .drive)) (buffering (take 512 given) m) refl
-      (agree-kept (b .drive) (withBuffer (take 512 given) c) image (buffering (take 512 given) m)
-      (agree-buffer c image m agree (take 512 given) (take 512 given) refl (length-part 0 512 given (omega arith))))
+  pub buffer-written : 512 ≤ length given
+      → Follows (b .drive) area image m (doFree b given entry buffer image WriteBuffer) (well b 0 [] (withBuffer (take 512 given) m))
+  unfolding doFree part
+  buffer-written enough =
+      well-follows b area image m entry (take 512 given) image (withBuffer (take 512 given) m)
+      (done-buffer _ entry buffer image m alike (take 512 given) (take 512 given) refl (length-part 0 512 given (omega arith))) 0 []
 
   initialized-follows : (s : Setting) (config : List ℕ)
-      → Follows image b area (initializedBy s b config c (image (b .drive))) (initializeBy s b config m (m .disks (b .drive)))
+      → Follows (b .drive) area image m (effect (initializedBy s b config entry image) buffer [] image) (initializeBy s b config m (m .disks (b .drive)))
   unfolding initializedBy initializeBy
-  initialized-follows Invalid config = fault-follows image b area c m four agree 0x22 (b .address)
+  initialized-follows Invalid config = fault-follows b area image m entry buffer alike 0x22 (b .address)
   initialized-follows (Valid p) config =
-      let before = agree .drives (b .drive) four in
-      well-follows image b area four 0 [] (withDrive (b .drive) _ c) (image (b .drive)) (withDisk (b .drive) _ m) refl
-      (agree-drive c image m agree (b .drive) four _ (image (b .drive)) _ (initialized-sense config _ (driveAt c (b .drive)))
-      (drive-initialized _ config _ (driveAt c (b .drive)) (image (b .drive)) (m .disks (b .drive)) before
-      (ap not (holds-stored _ (m .disks (b .drive)) (image (b .drive)) config (before .stored)))))
+      let before = alike .drive in
+      well-follows b area image m _ buffer image _
+      (done-drive _ entry buffer image m alike _ image _
+      (drive-initialized _ config _ entry image (m .disks (b .drive)) before
+      (ap not (holds-stored _ (m .disks (b .drive)) image config (before .stored)))) refl) 0 []
 
-  pub initialize-follows : (given : List ℕ) → Follows image b area (initialize b given c (image (b .drive)))
-      (initializeBy (settingOf (mediumOf (b .drive)) (take 10 given) (m .disks (b .drive) .len)) b (take 10 given) m (m .disks (b .drive)))
-  unfolding initialize part
-  initialize-follows given =
+  pub initialize-follows : Follows (b .drive) area image m (doFree b given entry buffer image Initialize) (freely b given m (m .disks (b .drive)) Initialize)
+  unfolding doFree initialize part freely
+  initialize-follows =
       subst
-      (λ (n : ℕ). Follows image b area (initialize b given c (image (b .drive)))
+      (λ (n : ℕ). Follows (b .drive) area image m (doFree b given entry buffer image Initialize)
       (initializeBy (settingOf (mediumOf (b .drive)) (take 10 given) n) b (take 10 given) m (m .disks (b .drive))))
-      (sym (agree .drives (b .drive) four .len)) (initialized-follows (settingOf (mediumOf (b .drive)) (take 10 given) (length (image (b .drive)))) (take 10 given))
+      (sym (alike .drive .len)) (initialized-follows (settingOf (mediumOf (b .drive)) (take 10 given) (length image)) (take 10 given))

@@ -28,7 +28,6 @@ use Rattle.track.specs.Pair.{stateOf, oneBelow, splits, pairSplit}
 use Rattle.track.specs.State.{isBad as badState, isMoved as movedState, isTaken as takenState}
 use Rattle.formatter.specs.Check.{checkCode}
 use Rattle.formatter.proofs.Formed.{state-formed, check-sound, check-moved, check-bad, check-taken}
-use Rattle.model.specs.declared.verdict.Verdict.{Verdict}
 use Rattle.model.specs.Checks.{Test, on, judged}
 use Rattle.model.specs.Commands.{checkTests, aloneTests, assignTests}
 use Rattle.model.specs.Machine.{Kind, stateless, sound, bad, moved, taken, isBad, isMoved, isTaken, denied, paired, parted, partedBy, someParted, unassignable}
@@ -130,32 +129,32 @@ eqb-turned a b = by (ℕ-discrete a b)
     by (no ne) = ne-eqb a b ne ∙ sym (ne-eqb b a (λ e. ne (sym e)))
 
 -- an alternate past the last address settles it, whatever the state of its track
-assign-past : (p : Params) (first : ℕ) (a b : Lba) (stateA stateB stateC : State) (after : Verdict) → ltb (lastAddress p .0) (b .0) ≡ true
-    → judged (assignTests p first a b stateA stateB) after ≡ judged (assignTests p first a b stateA stateC) after
+assign-past : (p : Params) (first : ℕ) (a b : Lba) (stateA stateB stateC : State) → ltb (lastAddress p .0) (b .0) ≡ true
+    → judged (assignTests p first a b stateA stateB) ≡ judged (assignTests p first a b stateA stateC)
 unfolding judged assignTests pick
-assign-past p first a b stateA stateB stateC after e = rw e
+assign-past p first a b stateA stateB stateC e = rw e
 
 -- ---- Check Track's code, by the track's kind
-module _ (a : Lba) (after : Verdict) where
-  code-slots : (same : Bool) → judged (checkTests (pick same 0 0x1A) a) after ≡ judged (on (not same) 0x1A a ∷ []) after
+module _ (a : Lba) where
+  code-slots : (same : Bool) → judged (checkTests (pick same 0 0x1A) a) ≡ judged (on (not same) 0x1A a ∷ [])
   unfolding judged checkTests pick
   code-slots true = refl
   code-slots false = refl
 
-  code-sound : (same : Bool) → judged (checkTests (pick same 0 0x1A) a) after ≡ judged (denied sound a ++ (on (not same) 0x1A a ∷ [])) after
+  code-sound : (same : Bool) → judged (checkTests (pick same 0 0x1A) a) ≡ judged (denied sound a ++ (on (not same) 0x1A a ∷ []))
   unfolding judged denied isBad isTaken pick
   code-sound same = code-slots same
 
   code-moved : (u : Track) (same : Bool)
-      → judged (checkTests (pick same 0 0x1A) a) after ≡ judged (denied (moved u) a ++ (on (not same) 0x1A a ∷ [])) after
+      → judged (checkTests (pick same 0 0x1A) a) ≡ judged (denied (moved u) a ++ (on (not same) 0x1A a ∷ []))
   unfolding judged denied isBad isTaken pick
   code-moved u same = code-slots same
 
-  code-bad : (rest : List Test) → judged (checkTests 0x19 a) after ≡ judged (denied bad a ++ rest) after
+  code-bad : (rest : List Test) → judged (checkTests 0x19 a) ≡ judged (denied bad a ++ rest)
   unfolding judged checkTests denied isBad isTaken pick
   code-bad rest = refl
 
-  code-taken : (u : Track) (rest : List Test) → judged (checkTests 0x1C a) after ≡ judged (denied (taken u) a ++ rest) after
+  code-taken : (u : Track) (rest : List Test) → judged (checkTests 0x1C a) ≡ judged (denied (taken u) a ++ rest)
   unfolding judged checkTests denied isBad isTaken pick
   code-taken u rest = refl
 
@@ -192,16 +191,16 @@ module _ (p : Params) (w : Within p) (kind : Track → Kind) (inter : Track → 
       let turned : moved u ≡ taken t = sym e ∙ ap kind (same-track t u (sym z)) ∙ mirror .moves t u h e .returned in
       let no : _≡_ {A = ℕ} 0 1 = cc in omega arith
 
-  module _ (t : Track) (a : Lba) (f : ℕ) (after : Verdict) (h : t .0 < trackCount p) (hf : (0 < f) × (f < p .sectors)) where
+  module _ (t : Track) (a : Lba) (f : ℕ) (h : t .0 < trackCount p) (hf : (0 < f) × (f < p .sectors)) where
     check-kind : (k : Kind) → kind t ≡ k
-        → judged (checkTests (checkCode p t (layoutOf (p .sectors) f) image) a) after
-        ≡ judged (denied k a ++ (on (not (eqb f (inter t))) 0x1A a ∷ [])) after
+        → judged (checkTests (checkCode p t (layoutOf (p .sectors) f) image) a)
+        ≡ judged (denied k a ++ (on (not (eqb f (inter t))) 0x1A a ∷ []))
     check-kind stateless e = absurd (mirror .stated t h e)
     check-kind sound e =
         rw (check-sound p t f (inter t) image hf (mirror .inters t h) (sound-formed p kind inter held image mirror t h e))
-        (code-sound a after (eqb f (inter t)))
+        (code-sound a (eqb f (inter t)))
     check-kind bad e =
-        rw (check-bad p t f (inter t) image hf (mirror .inters t h) (bad-formed p kind inter held image mirror t h e)) (code-bad a after _)
+        rw (check-bad p t f (inter t) image hf (mirror .inters t h) (bad-formed p kind inter held image mirror t h e)) (code-bad a _)
     check-kind (moved u) e =
         let pair = mirror .moves t u h e in
         rw (
@@ -209,14 +208,14 @@ module _ (p : Params) (w : Within p) (kind : Track → Kind) (inter : Track → 
               (moved-formed p kind inter held image mirror t h u e) (taken-formed p kind inter held image mirror u (pair .ours) t (pair .returned)),
           pair .inters,
         )
-        (code-moved a after u (eqb f (inter t)))
+        (code-moved a u (eqb f (inter t)))
     check-kind (taken u) e =
-        rw (check-taken p t f (inter t) image hf (mirror .inters t h) u (taken-formed p kind inter held image mirror t h u e)) (code-taken a after u _)
+        rw (check-taken p t f (inter t) image hf (mirror .inters t h) u (taken-formed p kind inter held image mirror t h u e)) (code-taken a u _)
 
-  pub check-mirrored : (t : Track) (a : Lba) (f : ℕ) (after : Verdict) → t .0 < trackCount p → (0 < f) × (f < p .sectors)
-      → judged (checkTests (checkCode p t (layoutOf (p .sectors) f) image) a) after
-      ≡ judged (denied (kind t) a ++ (on (not (eqb f (inter t))) 0x1A a ∷ [])) after
-  check-mirrored t a f after h hf = check-kind t a f after h hf (kind t) refl
+  pub check-mirrored : (t : Track) (a : Lba) (f : ℕ) → t .0 < trackCount p → (0 < f) × (f < p .sectors)
+      → judged (checkTests (checkCode p t (layoutOf (p .sectors) f) image) a)
+      ≡ judged (denied (kind t) a ++ (on (not (eqb f (inter t))) 0x1A a ∷ []))
+  check-mirrored t a f h hf = check-kind t a f h hf (kind t) refl
 
   -- an address past the last one is at or past their number
   past-last : (b : ℕ) → ltb (lastAddress p .0) b ≡ leb (trackCount p * p .sectors) b
@@ -232,9 +231,9 @@ module _ (p : Params) (w : Within p) (kind : Track → Kind) (inter : Track → 
       let B = kind (trackOf p b) in
       rw (past-last (b .0), moved-kind A, taken-kind A, eqb-turned (trackOf p b .0) (trackOf p a .0), taken-kind B, moved-kind B, bad-kind B)
 
-  pub assign-mirrored : (first : ℕ) (a b : Lba) (after : Verdict) → trackOf p a .0 < trackCount p
-      → judged (assignTests p first a b (stateOf p (trackOf p a) image) (stateOf p (trackOf p b) image)) after ≡ judged (unassignable kind p first a b) after
-  assign-mirrored first a b after h = rw (state-mirrored (trackOf p a) h, ← assign-kinds first a b) (by (decLt (b .0) (trackCount p * p .sectors)))
+  pub assign-mirrored : (first : ℕ) (a b : Lba) → trackOf p a .0 < trackCount p
+      → judged (assignTests p first a b (stateOf p (trackOf p a) image) (stateOf p (trackOf p b) image)) ≡ judged (unassignable kind p first a b)
+  assign-mirrored first a b h = rw (state-mirrored (trackOf p a) h, ← assign-kinds first a b) (by (decLt (b .0) (trackCount p * p .sectors)))
     where
       A : State
       A = stateFor (kind (trackOf p a))
@@ -243,6 +242,6 @@ module _ (p : Params) (w : Within p) (kind : Track → Kind) (inter : Track → 
       B = stateFor (kind (trackOf p b))
 
       by : Dec (b .0 < trackCount p * p .sectors)
-          → judged (assignTests p first a b A (stateOf p (trackOf p b) image)) after ≡ judged (assignTests p first a b A B) after
+          → judged (assignTests p first a b A (stateOf p (trackOf p b) image)) ≡ judged (assignTests p first a b A B)
       by (yes l) = rw (state-mirrored (trackOf p b) (track-in p w b l))
-      by (no l) = assign-past p first a b A _ B after (lt-ltb (lastAddress p .0) (b .0) (omega (arith, sectors-some p w)))
+      by (no l) = assign-past p first a b A _ B (lt-ltb (lastAddress p .0) (b .0) (omega (arith, sectors-some p w)))

@@ -1,13 +1,12 @@
 -- No command changes a byte past the image length that the parameters in force give, nor the length of an image; and only
 -- Format Drive changes the label.
-use Prim.Native.Nat.{ℕ, zero, suc, _≤_, _<_}
+use Prim.Native.Nat.{ℕ, _≤_, _<_}
 use mathlib.Core.Path.{_≡_, refl, ap, subst, _∙_}
-use mathlib.Core.List.{List, _++_}
+use mathlib.Core.List.{List, [], _++_}
 use native.Mathlib.Omega.{arith}
 use lib.ListN.{length}
 use borrow.Author.Tests.{ltb-false}
 use Rattle.base.specs.Part.{part}
-use Rattle.base.proofs.Decide.{pick-both}
 use Rattle.geometry.specs.declared.params.Lba.{Lba}
 use Rattle.geometry.specs.declared.params.Params.{Params}
 use Rattle.geometry.specs.declared.medium.Medium.{Medium}
@@ -19,75 +18,57 @@ use Rattle.geometry.specs.Config.{settingOf, labelRest}
 use Rattle.geometry.proofs.Settings.{setting-within, setting-ten}
 use Rattle.geometry.proofs.Sizes.{sectors-some}
 use Rattle.geometry.proofs.Addresses.{track-in}
-use Rattle.track.specs.Find.{Sector, Slot, Fault}
 use Rattle.track.specs.declared.state.State.{State}
-use Rattle.sectors.specs.Transfer.{Transfer, begun, ended, readSlot, onward, found, reading, writing}
+use Rattle.sectors.specs.Transfer.{begun}
 use Rattle.model.specs.declared.block.Block.{Block}
 use Rattle.model.specs.declared.table.Command.{Command}
-use Rattle.model.specs.declared.table.Command.the-variants.{TestReady, Recalibrate, RequestSense, FormatDrive, CheckTrack, FormatTrack, FormatBadTrack, Read, Write, Seek, AssignAlternate, WriteBuffer, ReadBuffer, Initialize, Unknown}
-use Rattle.model.specs.declared.table.Entry.{Entry}
+use Rattle.model.specs.declared.table.Command.the-variants.{Free, OnDisk, Unknown}
+use Rattle.model.specs.declared.table.FreeCommand.{FreeCommand}
+use Rattle.model.specs.declared.table.FreeCommand.the-variants.{RequestSense, WriteBuffer, ReadBuffer, Initialize}
+use Rattle.model.specs.declared.table.DiskCommand.{DiskCommand}
+use Rattle.model.specs.declared.table.DiskCommand.the-variants.{ArmWork, TrackWork, SectorWork}
+use Rattle.model.specs.declared.table.TrackCommand.{TrackCommand}
+use Rattle.model.specs.declared.table.TrackCommand.the-variants.{FormatDrive, CheckTrack, FormatTrack, FormatBadTrack, AssignAlternate}
+use Rattle.model.specs.declared.table.SectorCommand.{SectorCommand}
+use Rattle.model.specs.declared.table.SectorCommand.the-variants.{Read, Write}
 use Rattle.model.specs.declared.record.Drive.{Drive}
-use Rattle.model.specs.declared.record.Controller.{Controller}
+use Rattle.model.specs.declared.record.Ending.{Ending}
 use Rattle.model.specs.declared.verdict.Verdict.{Verdict}
 use Rattle.model.specs.declared.verdict.Verdict.the-variants.{Refused, Faulty, Passed}
 use Rattle.model.specs.Block.{countOf, alternateOf}
-use Rattle.model.specs.Table.{entryOf}
+use Rattle.model.specs.Table.{TableRow, checkNumber, isAmong, rowFor}
 use Rattle.model.specs.Checks.{bytesOf, sizeIn, judged, judge}
-use Rattle.model.specs.Record.{driveAt, settingIn, Effect, refused, failed, good, unless}
-use Rattle.model.specs.Commands.{requestSense, fillOf, driveFormatted, formatDrive, checkTrack, formatTrack}
-use Rattle.model.specs.Commands.{transferred, read, write, assignTests, assignAlternate, initializedBy, initialize, onDisk, carryOut}
+use Rattle.model.specs.Record.{settingIn, unless, Effect, effect, Made, made}
+use Rattle.model.specs.Commands.{fillOf, driveFormatted, formatDrive, formatTrack, transferred, read, write, assignTests, assignAlternate}
+use Rattle.model.specs.Commands.{doFree, doTrack, doSectors, asEffect, doDisk, carryOut}
 use Rattle.model.specs.Engine.{viewOf, obey}
 use Rattle.model.proofs.engine.Checked.{opcodeFor, row-of, Cleared, cleared, track-cleared, count-cleared}
 use Rattle.model.proofs.engine.Judged.{passed-on}
 use Rattle.model.proofs.engine.Outside.{Outside, outside-self, outside-less, plain-most, fill-most}
 use Rattle.model.proofs.engine.Outside.{made-outside, assigned-outside, drive-outside, drive-label}
 use Rattle.model.proofs.engine.Written.{writes}
-use Rattle.model.proofs.claim.Current.{setting-known}
+use Rattle.model.proofs.engine.Known.{setting-known}
+use Rattle.model.proofs.engine.Leaving.{read-image}
 
--- ---- A Read changes nothing
-read-image : (n a : ℕ) (p : Params) (x : Transfer) → reading p n a x .image ≡ x .image
-unfolding reading onward ended readSlot
-read-image zero a p x = refl
-read-image (suc n) a p x = by (found p a (x .image)) (λ y. read-image n (suc a) p y)
-  where
-    by : (s : Sector) → ((y : Transfer) → reading p n (suc a) y .image ≡ y .image)
-        → onward x (λ t k. reading p n (suc a) (readSlot p x t k)) s .image ≡ x .image
-    by (Fault code) rest = refl
-    by (Slot t k) rest = rest (readSlot p x t k)
-
--- ---- By checks: the image as it was, or what the command makes of it
-pub unless-left : (P : List ℕ → Type 0) (v : Verdict) (b : Block) (c : Controller) (image : List ℕ) (e : Effect)
-    → P image → (v ≡ Passed → P (e .image)) → P (unless v b c image e .image)
-unfolding unless refused failed
-unless-left P (Refused number) b c image e old new = old
-unless-left P (Faulty code at) b c image e old new = old
-unless-left P Passed b c image e old new = new refl
-
--- ---- Transfers
-transferred-image : (b : Block) (c : Controller) (x : Transfer) → transferred b c x .image ≡ x .image
-unfolding transferred good failed
-transferred-image b c x = pick-both (λ (e : Effect). e .image ≡ x .image) _ _ _ refl refl
-
-pub initialized-image : (s : Setting) (b : Block) (config : List ℕ) (c : Controller) (image : List ℕ)
-    → initializedBy s b config c image .image ≡ image
-unfolding initializedBy good failed
-initialized-image Invalid b config c image = refl
-initialized-image (Valid p) b config c image = refl
+-- ---- By checks: what the command was lent, whatever the entry and the answer, or what it makes of it
+pub unless-left : {A : Type 0} (P : A → Type 0) (v : Verdict) (drive : ℕ) (entry : Drive) (keep : Ending → A) (after : A)
+    → ((e : Ending) → P (keep e)) → (v ≡ Passed → P after) → P (unless v drive entry keep after)
+unfolding unless
+unless-left P (Refused number) drive entry keep after old new = old _
+unless-left P (Faulty code at) drive entry keep after old new = old _
+unless-left P Passed drive entry keep after old new = new refl
 
 -- B out of range is 21h
 second-in : (p : Params) (first : ℕ) (a alternate : Lba) (stateA stateB : State)
-    → judged (assignTests p first a alternate stateA stateB) Passed ≡ Passed → alternate .0 ≤ lastAddress p .0
+    → judged (assignTests p first a alternate stateA stateB) ≡ Passed → alternate .0 ≤ lastAddress p .0
 unfolding assignTests
-second-in p first a alternate stateA stateB e = let t = passed-on _ _ _ _ _ e in ltb-false _ _ (passed-on _ _ _ _ _ (t .1) .0)
+second-in p first a alternate stateA stateB e = let t = passed-on _ _ _ _ e in ltb-false _ _ (passed-on _ _ _ _ (t .1) .0)
 
 -- ---- A command whose checks have passed
-module _ (b : Block) (given : List ℕ) (area : ℕ) (c : Controller) (image : List ℕ)
-    (passed : judge b (viewOf (mediumOf (b .drive)) (driveAt c (b .drive)) (length image)) (length given) area ≡ Passed) where
+module _ (b : Block) (given : List ℕ) (area : ℕ) (entry : Drive) (buffer image : List ℕ)
+    (passed : judge b (viewOf (mediumOf (b .drive)) entry (length image)) (length given) area ≡ Passed) where
   abbrev medium : Medium
   medium = mediumOf (b .drive)
-
-  abbrev entry : Drive
-  entry = driveAt c (b .drive)
 
   module _ (p : Params) (valid : settingIn medium entry (length image) ≡ Valid p) where
     setting : settingOf medium (entry .config) (length image) ≡ Valid p
@@ -102,83 +83,97 @@ module _ (b : Block) (given : List ℕ) (area : ℕ) (c : Controller) (image : L
     ten : length (entry .config) ≡ 10
     ten = setting-ten medium _ _ p setting
 
-    clear : (command : Command) → entryOf (b .opcode) .command ≡ command → Cleared (entryOf (opcodeFor command)) b p (entry .pending) (length given)
+    clear : (command : Command) → rowFor (b .opcode) .command ≡ command → Cleared (rowFor (opcodeFor command)) b p (entry .pending) (length given)
     unfolding viewOf
     clear command is =
-        subst (λ (r : Entry). Cleared r b p (entry .pending) (length given))
-        (row-of (b .opcode) ∙ ap (λ (k : Command). entryOf (opcodeFor k)) is)
+        subst (λ (r : TableRow). Cleared r b p (entry .pending) (length given))
+        (row-of (b .opcode) ∙ ap (λ (k : Command). rowFor (opcodeFor k)) is)
         (cleared b (viewOf medium entry (length image)) (length given) area passed p valid)
 
     -- the image that Format Drive makes
-    module _ (is : entryOf (b .opcode) .command ≡ FormatDrive) where
+    module _ (is : rowFor (b .opcode) .command ≡ OnDisk (TrackWork FormatDrive)) where
       format-in : trackOf p (b .address) .0 < trackCount p
-      unfolding entryOf opcodeFor
-      format-in = track-cleared w (clear FormatDrive is) refl refl
+      unfolding rowFor opcodeFor isAmong checkNumber
+      format-in = track-cleared w (clear (OnDisk (TrackWork FormatDrive)) is) refl refl
 
-      abbrev made : List ℕ
-      made = driveFormatted b p (entry .config) (fillOf b p (c .buffer)) image
+      abbrev whole : List ℕ
+      whole = driveFormatted b p (entry .config) (fillOf b p buffer) image
 
-      format-outside : (low : ℕ) → low ≡ 0 → Outside low (Valid p) image made
-      format-outside low none = drive-outside low (omega arith) b p w image fits _ _ ten (fill-most b p (c .buffer)) format-in none
+      format-outside : (low : ℕ) → low ≡ 0 → Outside low (Valid p) image whole
+      format-outside low none = drive-outside low (omega arith) b p w image fits _ _ ten (fill-most b p buffer) format-in none
 
-      pub format-label : (length made ≡ length image) × (part 0 16 made ≡ entry .config ++ labelRest)
-      format-label = (format-outside 0 refl .len, drive-label b p w image fits _ _ ten (fill-most b p (c .buffer)) format-in)
+      pub format-label : (length whole ≡ length image) × (part 0 16 whole ≡ entry .config ++ labelRest)
+      format-label = (format-outside 0 refl .len, drive-label b p w image fits _ _ ten (fill-most b p buffer) format-in)
 
   -- by cases; `low` is at most 16, and 0 for Format Drive
-  module _ (low : ℕ) (front : low ≤ 16) (free : entryOf (b .opcode) .command ≡ FormatDrive → low ≡ 0) where
-    abbrev Leaves : Setting → List ℕ → Type 0
-    Leaves s after = Outside low s image after
+  module _ (low : ℕ) (front : low ≤ 16) (free : rowFor (b .opcode) .command ≡ OnDisk (TrackWork FormatDrive) → low ≡ 0) where
+    abbrev AfterIt : Setting → List ℕ → Type 0
+    AfterIt s after = Outside low s image after
 
-    same : (s : Setting) (after : List ℕ) → after ≡ image → Leaves s after
-    same s after e = rw e (outside-self low s image)
+    module _ (p : Params) (valid : settingIn medium entry (length image) ≡ Valid p) where
+      -- by own checks
+      own : (v : Verdict) (after : Made) → (v ≡ Passed → AfterIt (Valid p) (after .image))
+          → AfterIt (Valid p) (unless v (b .drive) entry (λ e. made e image) after .image)
+      own v after =
+          unless-left (λ (x : Made). AfterIt (Valid p) (x .image)) v (b .drive) entry (λ e. made e image) after (λ e. outside-self low (Valid p) image)
 
-    disk : (s : Setting) (run : Params → Effect) → ((p : Params) → s ≡ Valid p → Leaves (Valid p) (run p .image))
-        → Leaves s (onDisk s b c image run .image)
-    unfolding onDisk failed
-    disk Invalid run h = outside-self low Invalid image
-    disk (Valid p) run h = h p refl
+      track-outside : (command : TrackCommand) → rowFor (b .opcode) .command ≡ OnDisk (TrackWork command)
+          → AfterIt (Valid p) (doTrack b p buffer given entry image command .image)
+      unfolding doTrack formatDrive formatTrack assignAlternate rowFor opcodeFor isAmong checkNumber
+      track-outside FormatDrive is = own _ _ (λ ok. format-outside p valid is low (free is))
+      track-outside CheckTrack is = outside-self low (Valid p) image
+      track-outside FormatTrack is =
+          own _ _ (λ ok.
+          made-outside low front b p (w p valid) image (fits p valid) _ _ _
+          (track-cleared (w p valid) (clear p valid (OnDisk (TrackWork FormatTrack)) is) refl refl) (fill-most b p buffer))
+      track-outside FormatBadTrack is =
+          own _ _ (λ ok.
+          made-outside low front b p (w p valid) image (fits p valid) _ _ _
+          (track-cleared (w p valid) (clear p valid (OnDisk (TrackWork FormatBadTrack)) is) refl refl) (plain-most medium p))
+      track-outside AssignAlternate is =
+          own _ _ (λ ok.
+          assigned-outside low front b p (w p valid) image (fits p valid) _ _ _
+          (track-cleared (w p valid) (clear p valid (OnDisk (TrackWork AssignAlternate)) is) refl refl)
+          (track-in p (w p valid) (alternateOf given) (omega (arith, sectors-some p (w p valid), second-in p _ _ (alternateOf given) _ _ ok)))
+          (fill-most b p buffer))
 
-    own : (p : Params) (v : Verdict) (e : Effect) → (v ≡ Passed → Leaves (Valid p) (e .image)) → Leaves (Valid p) (unless v b c image e .image)
-    own p v e = unless-left (Leaves (Valid p)) v b c image e (outside-self low (Valid p) image)
+      sectors-outside : (command : SectorCommand) → rowFor (b .opcode) .command ≡ OnDisk (SectorWork command)
+          → AfterIt (Valid p) (doSectors b p given entry buffer image command .image)
+      unfolding doSectors read write transferred begun rowFor opcodeFor isAmong checkNumber bytesOf sizeIn
+      sectors-outside Read is = rw (read-image (countOf b) (b .address .0) p (begun image)) (outside-self low (Valid p) image)
+      sectors-outside Write is =
+          let ours = clear p valid (OnDisk (SectorWork Write)) is in
+          outside-less low _ 16 front _ _ (writes p (w p valid) (countOf b) (b .address .0) given (begun image) (fits p valid)
+          (count-cleared (w p valid) ours refl refl) (ours .enough) .outside)
 
-    carried-outside : (command : Command) → entryOf (b .opcode) .command ≡ command
-        → let s = settingIn medium entry (length image) in Leaves s (carryOut b s given c image command .image)
-    unfolding carryOut requestSense formatDrive checkTrack formatTrack read write assignAlternate initialize entryOf opcodeFor
-        bytesOf sizeIn good failed begun
-    carried-outside TestReady is = outside-self low _ image
-    carried-outside Recalibrate is = outside-self low _ image
-    carried-outside RequestSense is = outside-self low _ image
-    carried-outside FormatDrive is = disk _ _ (λ p e. own p _ _ (λ ok. format-outside p e is low (free is)))
-    carried-outside CheckTrack is = disk _ _ (λ p e. own p _ _ (λ ok. outside-self low _ image))
-    carried-outside FormatTrack is =
-        disk _ _ (λ p e. own p _ _ (λ ok.
-        made-outside low front b p (w p e) image (fits p e) _ _ _ (track-cleared (w p e) (clear p e FormatTrack is) refl refl) (fill-most b p (c .buffer))))
-    carried-outside FormatBadTrack is =
-        disk _ _ (λ p e. own p _ _ (λ ok.
-        made-outside low front b p (w p e) image (fits p e) _ _ _ (track-cleared (w p e) (clear p e FormatBadTrack is) refl refl) (plain-most medium p)))
-    carried-outside Read is =
-        disk _ _ (λ p e. same _ _ (transferred-image b c _ ∙ read-image (countOf b) (b .address .0) p (begun image)))
-    carried-outside Write is =
-        disk _ _ (λ p e.
-        rw (transferred-image b c (writing p (countOf b) (b .address .0) given (begun image)))
-        (outside-less low _ 16 front _ _ (writes p (w p e) (countOf b) (b .address .0) given (begun image) (fits p e)
-        (count-cleared (w p e) (clear p e Write is) refl refl) (clear p e Write is .enough) .outside)))
-    carried-outside Seek is = outside-self low _ image
-    carried-outside AssignAlternate is =
-        disk _ _ (λ p e. own p _ _ (λ ok.
-        assigned-outside low front b p (w p e) image (fits p e) _ _ _ (track-cleared (w p e) (clear p e AssignAlternate is) refl refl)
-        (track-in p (w p e) (alternateOf given) (omega (arith, sectors-some p (w p e), second-in p _ _ (alternateOf given) _ _ ok)))
-        (fill-most b p (c .buffer))))
-    carried-outside WriteBuffer is = outside-self low _ image
-    carried-outside ReadBuffer is = outside-self low _ image
-    carried-outside Initialize is = same _ _ (initialized-image _ b _ c image)
-    carried-outside Unknown is = outside-self low _ image
+      disk-outside : (command : DiskCommand) → rowFor (b .opcode) .command ≡ OnDisk command
+          → AfterIt (Valid p) (doDisk b p given entry buffer image command .image)
+      unfolding doDisk asEffect
+      disk-outside (ArmWork command) is = outside-self low (Valid p) image
+      disk-outside (TrackWork command) is = track-outside command is
+      disk-outside (SectorWork command) is = sectors-outside command is
+
+    free-outside : (s : Setting) (command : FreeCommand) → AfterIt s (doFree b given entry buffer image command .image)
+    unfolding doFree
+    free-outside s RequestSense = outside-self low s image
+    free-outside s WriteBuffer = outside-self low s image
+    free-outside s ReadBuffer = outside-self low s image
+    free-outside s Initialize = outside-self low s image
+
+    carried-outside : (s : Setting) → settingIn medium entry (length image) ≡ s → (command : Command) → rowFor (b .opcode) .command ≡ command
+        → AfterIt s (carryOut b s given entry buffer image command .image)
+    unfolding carryOut
+    carried-outside s e (Free command) is = free-outside s command
+    carried-outside Invalid e (OnDisk command) is = outside-self low Invalid image
+    carried-outside (Valid p) e (OnDisk command) is = disk-outside p e command is
+    carried-outside s e Unknown is = outside-self low s image
 
 -- ---- Any command, on any image
-pub outside-kept : (b : Block) (given : List ℕ) (area : ℕ) (c : Controller) (image : List ℕ)
-    → (low : ℕ) → low ≤ 16 → (entryOf (b .opcode) .command ≡ FormatDrive → low ≡ 0)
-    → Outside low (settingIn (mediumOf (b .drive)) (driveAt c (b .drive)) (length image)) image (obey b given area c image .image)
-unfolding obey
-outside-kept b given area c image low front free =
-    unless-left (Outside low (settingIn (mediumOf (b .drive)) (driveAt c (b .drive)) (length image)) image) _ b c image _ (outside-self low _ image)
-    (λ passed. carried-outside b given area c image passed low front free (entryOf (b .opcode) .command) refl)
+pub outside-kept : (b : Block) (given : List ℕ) (area : ℕ) (entry : Drive) (buffer image : List ℕ)
+    → (low : ℕ) → low ≤ 16 → (rowFor (b .opcode) .command ≡ OnDisk (TrackWork FormatDrive) → low ≡ 0)
+    → Outside low (settingIn (mediumOf (b .drive)) entry (length image)) image (obey b given area entry buffer image .image)
+unfolding obey viewOf
+outside-kept b given area entry buffer image low front free =
+    let s = settingIn (mediumOf (b .drive)) entry (length image) in
+    unless-left (λ (x : Effect). Outside low s image (x .image)) _ (b .drive) entry (λ e. effect e buffer [] image) _ (λ e. outside-self low s image)
+    (λ passed. carried-outside b given area entry buffer image passed low front free s refl (rowFor (b .opcode) .command) refl)

@@ -1,8 +1,8 @@
 -- What it says of a command that its checks have passed: once for any row of the table that has the flag.
 use Prim.Native.Nat.{ℕ, zero, suc, _+_, _-_, _*_, _≤_, _<_}
-use mathlib.Core.Path.{_≡_, refl, sym, ap, subst, _∙_}
+use mathlib.Core.Path.{_≡_, refl, sym, subst, _∙_}
 use mathlib.Core.Logic.{_⊎_, inl, inr}
-use mathlib.Core.Bool.{Bool, true, false, not, _&&_, _||_, true≢false, false≢true}
+use mathlib.Core.Bool.{Bool, true, false, not, _&&_, true≢false, false≢true}
 use mathlib.Core.List.{List, [], _∷_}
 use native.Mathlib.Omega.{arith}
 use lib.ListN.{getD}
@@ -19,99 +19,111 @@ use Rattle.geometry.proofs.Sizes.{sectors-some}
 use Rattle.geometry.proofs.Addresses.{track-in}
 use Rattle.model.specs.declared.block.Block.{Block}
 use Rattle.model.specs.declared.table.Command.{Command}
-use Rattle.model.specs.declared.table.Command.the-variants.{TestReady, Recalibrate, RequestSense, FormatDrive, CheckTrack, FormatTrack, FormatBadTrack, Read, Write, Seek, AssignAlternate, WriteBuffer, ReadBuffer, Initialize, Unknown}
-use Rattle.model.specs.declared.table.Entry.{Entry}
-use Rattle.model.specs.declared.verdict.Verdict.{Verdict}
-use Rattle.model.specs.declared.verdict.Verdict.the-variants.{Refused, Passed}
+use Rattle.model.specs.declared.table.Command.the-variants.{Free, OnDisk, Unknown}
+use Rattle.model.specs.declared.table.FreeCommand.the-variants.{RequestSense, WriteBuffer, ReadBuffer, Initialize}
+use Rattle.model.specs.declared.table.DiskCommand.the-variants.{ArmWork, TrackWork, SectorWork}
+use Rattle.model.specs.declared.table.ArmCommand.the-variants.{TestReady, Recalibrate, Seek}
+use Rattle.model.specs.declared.table.TrackCommand.the-variants.{FormatDrive, CheckTrack, FormatTrack, FormatBadTrack, AssignAlternate}
+use Rattle.model.specs.declared.table.SectorCommand.the-variants.{Read, Write}
+use Rattle.model.specs.declared.verdict.View.{View}
+use Rattle.model.specs.declared.verdict.Verdict.the-variants.{Passed}
 use Rattle.model.specs.Block.{countOf}
-use Rattle.model.specs.Table.{table, unknown, entryOf}
-use Rattle.model.specs.Checks.{judged, View, reach, testsWith, tests, bytesOf, lengthsWith, judge}
-use Rattle.model.proofs.engine.Judged.{passed-on, passed-all}
+use Rattle.model.specs.Table.{Interleave, Address, Counted, Settled, SparedWhole, TableRow, applies, table, unknown, rowFor}
+use Rattle.model.specs.Checks.{withParams, interleaveWrong, pastEnd, notSpared, bytesOf, reachOf, hitsOf, inOrder, judge}
+use Rattle.model.proofs.engine.Judged.{passed-on, not-refused}
 
 -- ---- a command has one row
 -- an opcode that has the command
 unfoldable pub opcodeFor : Command → ℕ
-opcodeFor TestReady = 0
-opcodeFor Recalibrate = 1
-opcodeFor RequestSense = 3
-opcodeFor FormatDrive = 4
-opcodeFor CheckTrack = 5
-opcodeFor FormatTrack = 6
-opcodeFor FormatBadTrack = 7
-opcodeFor Read = 8
-opcodeFor Write = 10
-opcodeFor Seek = 11
-opcodeFor AssignAlternate = 14
-opcodeFor WriteBuffer = 15
-opcodeFor ReadBuffer = 16
-opcodeFor Initialize = 17
+opcodeFor (OnDisk (ArmWork TestReady)) = 0
+opcodeFor (OnDisk (ArmWork Recalibrate)) = 1
+opcodeFor (Free RequestSense) = 3
+opcodeFor (OnDisk (TrackWork FormatDrive)) = 4
+opcodeFor (OnDisk (TrackWork CheckTrack)) = 5
+opcodeFor (OnDisk (TrackWork FormatTrack)) = 6
+opcodeFor (OnDisk (TrackWork FormatBadTrack)) = 7
+opcodeFor (OnDisk (SectorWork Read)) = 8
+opcodeFor (OnDisk (SectorWork Write)) = 10
+opcodeFor (OnDisk (ArmWork Seek)) = 11
+opcodeFor (OnDisk (TrackWork AssignAlternate)) = 14
+opcodeFor (Free WriteBuffer) = 15
+opcodeFor (Free ReadBuffer) = 16
+opcodeFor (Free Initialize) = 17
 opcodeFor Unknown = 2
 
-data Every (P : Entry → Type 0) : List Entry → Type 0 where
+data Every (P : TableRow → Type 0) : List TableRow → Type 0 where
   none : Every P []
-  also : {e : Entry} {es : List Entry} → P e → Every P es → Every P (e ∷ es)
+  also : {e : TableRow} {es : List TableRow} → P e → Every P es → Every P (e ∷ es)
 
-every-row : (P : Entry → Type 0) (es : List Entry) (e : Entry) → Every P es → P e → (n : ℕ) → P (getD es n e)
+every-row : (P : TableRow → Type 0) (es : List TableRow) (e : TableRow) → Every P es → P e → (n : ℕ) → P (getD es n e)
 every-row P [] e none h n = h
 every-row P (x ∷ es) e (also y ys) h zero = y
 every-row P (x ∷ es) e (also y ys) h (suc n) = every-row P es e ys h n
 
-pub row-of : (opcode : ℕ) → entryOf opcode ≡ entryOf (opcodeFor (entryOf opcode .command))
-unfolding entryOf opcodeFor
+pub row-of : (opcode : ℕ) → rowFor opcode ≡ rowFor (opcodeFor (rowFor opcode .command))
+unfolding rowFor opcodeFor
 row-of opcode =
-    every-row (λ e. e ≡ entryOf (opcodeFor (e .command))) table unknown
+    every-row (λ e. e ≡ rowFor (opcodeFor (e .command))) table unknown
     (also refl (also refl (also refl (also refl (also refl (also refl (also refl (also refl (also refl
     (also refl (also refl (also refl (also refl (also refl (also refl (also refl (also refl (also refl none)))))))))))))))))) refl opcode
-
--- ---- what comes after the tests
-not-refused : (short : Bool) (number : ℕ) (after : Verdict) → pick short (Refused number) after ≡ Passed → short ≡ false
-unfolding pick
-not-refused false number after e = refl
-not-refused true number after e = absurd (let z : _≡_ {A = ℕ} 0 1 = cc in omega arith)
-
-past-refused : (short : Bool) (number : ℕ) (after : Verdict) → pick short (Refused number) after ≡ Passed → after ≡ Passed
-unfolding pick
-past-refused false number after e = e
-past-refused true number after e = absurd (let z : _≡_ {A = ℕ} 0 1 = cc in omega arith)
 
 and-off : (a b : Bool) → a ≡ true → (a && b) ≡ false → b ≡ false
 and-off true b e h = h
 and-off false b e h = absurd (false≢true e)
 
 -- ---- what has passed, with parameters p
-pub record Cleared (e : Entry) (b : Block) (p : Params) (pending : Bool) (given : ℕ) : Type 0 where
-  pub interleave : (e .interleave && (ltb (b .extra) 1 || ltb (p .sectors - 1) (b .extra))) ≡ false
-  pub address : (e .address && ltb (lastAddress p .0) (b .address .0 + reach e b - 1)) ≡ false
-  pub settled : (pending && e .settled && not (e .whole && eqb (trackOf p (b .address) .0) 0)) ≡ false
+pub record Cleared (e : TableRow) (b : Block) (p : Params) (pending : Bool) (given : ℕ) : Type 0 where
+  pub interleave : (applies Interleave e && interleaveWrong (b .extra) p) ≡ false
+  pub address : (applies Address e && pastEnd (b .address) (reachOf (applies Counted e) b) p) ≡ false
+  pub unpended : (pending && (applies Settled e && notSpared (applies SparedWhole e) (b .address) p)) ≡ false
   pub enough : bytesOf (e .takes) b (Valid p) ≤ given
 
 module _ (b : Block) (v : View) (given area : ℕ) (passed : judge b v given area ≡ Passed) where
-  pub given-enough : bytesOf (entryOf (b .opcode) .takes) b (v .setting) ≤ given
-  unfolding judge lengthsWith
-  given-enough = ltb-false _ _ (not-refused _ _ _ (passed-all _ _ passed))
+  -- all nine tests, one after the other
+  record Nine (e : TableRow) : Type 0 where
+    interleave : (applies Interleave e && withParams (v .setting) (interleaveWrong (b .extra))) ≡ false
+    past : (applies Address e && withParams (v .setting) (pastEnd (b .address) (reachOf (applies Counted e) b))) ≡ false
+    pending : (v .pending && (applies Settled e && withParams (v .setting) (notSpared (applies SparedWhole e) (b .address)))) ≡ false
+    taken : bytesOf (e .takes) b (v .setting) ≤ given
+    handed : bytesOf (e .gives) b (v .setting) ≤ area
 
-  pub area-enough : bytesOf (entryOf (b .opcode) .gives) b (v .setting) ≤ area
-  unfolding judge lengthsWith
-  area-enough = ltb-false _ _ (not-refused _ _ _ (past-refused _ _ _ (passed-all _ _ passed)))
+  nine : Nine (rowFor (b .opcode))
+  unfolding judge inOrder hitsOf
+  nine =
+      let t₁ = passed-on _ _ _ _ passed in
+      let t₂ = passed-on _ _ _ _ (t₁ .1) in
+      let t₃ = passed-on _ _ _ _ (t₂ .1) in
+      let t₄ = passed-on _ _ _ _ (t₃ .1) in
+      let t₅ = passed-on _ _ _ _ (t₄ .1) in
+      let t₆ = passed-on _ _ _ _ (t₅ .1) in
+      let t₇ = passed-on _ _ _ _ (t₆ .1) in
+      let t₈ = not-refused _ _ _ (t₇ .1) in
+      let t₉ = not-refused _ _ _ (t₈ .1) in
+      record { interleave = t₅ .0; past = t₆ .0; pending = t₇ .0; taken = ltb-false _ _ (t₈ .0); handed = ltb-false _ _ (t₉ .0) }
 
-  pub cleared : (p : Params) → v .setting ≡ Valid p → Cleared (entryOf (b .opcode)) b p (v .pending) given
-  unfolding judge tests testsWith
+  pub given-enough : bytesOf (rowFor (b .opcode) .takes) b (v .setting) ≤ given
+  given-enough = nine .taken
+
+  pub area-enough : bytesOf (rowFor (b .opcode) .gives) b (v .setting) ≤ area
+  area-enough = nine .handed
+
+  asked : (p : Params) → v .setting ≡ Valid p → (applied : Bool) (ask : Params → Bool) → (applied && withParams (v .setting) ask) ≡ false
+      → (applied && ask p) ≡ false
+  unfolding withParams
+  asked p valid applied ask h = subst (λ (s : Setting). (applied && withParams s ask) ≡ false) valid h
+
+  pub cleared : (p : Params) → v .setting ≡ Valid p → Cleared (rowFor (b .opcode)) b p (v .pending) given
+  unfolding withParams
   cleared p valid =
-      let e = entryOf (b .opcode) in
-      let after = lengthsWith e b (v .setting) given area in
-      let t₁ = passed-on _ _ _ _ after passed in
-      let t₂ = passed-on _ _ _ _ after (t₁ .1) in
-      let t₃ = passed-on _ _ _ _ after (t₂ .1) in
-      let t₄ = passed-on _ _ _ _ after (t₃ .1) in
-      let t : judged (testsWith e b (v .pending) (Valid p)) after ≡ Passed =
-      ap (λ (s : Setting). judged (testsWith e b (v .pending) s) after) (sym valid) ∙ t₄ .1 in
-      let t₅ = passed-on _ _ _ _ after t in
-      let t₆ = passed-on _ _ _ _ after (t₅ .1) in
-      let t₇ = passed-on _ _ _ _ after (t₆ .1) in
-      let enough : bytesOf (e .takes) b (Valid p) ≤ given = subst (λ (s : Setting). bytesOf (e .takes) b s ≤ given) valid given-enough in
-      record { interleave = t₅ .0; address = t₆ .0; settled = t₇ .0; enough = enough }
+      let e = rowFor (b .opcode) in
+      record {
+        interleave = asked p valid (applies Interleave e) (interleaveWrong (b .extra)) (nine .interleave);
+        address = asked p valid (applies Address e) (pastEnd (b .address) (reachOf (applies Counted e) b)) (nine .past);
+        unpended = subst (λ (s : Setting). (v .pending && (applies Settled e && withParams s (notSpared (applies SparedWhole e) (b .address)))) ≡ false) valid (nine .pending);
+        enough = subst (λ (s : Setting). bytesOf (e .takes) b s ≤ given) valid given-enough;
+      }
 
-pending-spared : (pending settled whole first : Bool) → settled ≡ true → (pending && settled && not (whole && first)) ≡ false
+pending-spared : (pending settled whole first : Bool) → settled ≡ true → (pending && (settled && not (whole && first))) ≡ false
     → (pending ≡ false) ⊎ ((whole ≡ true) × (first ≡ true))
 pending-spared false settled whole first s off = inl refl
 pending-spared true false whole first s off = absurd (false≢true s)
@@ -119,30 +131,34 @@ pending-spared true true false first s off = absurd (true≢false off)
 pending-spared true true true false s off = absurd (true≢false off)
 pending-spared true true true true s off = inr (refl, refl)
 
-module _ {e : Entry} {b : Block} {p : Params} {pending : Bool} {given : ℕ} (w : Within p) (clear : Cleared e b p pending given) where
+module _ {e : TableRow} {b : Block} {p : Params} {pending : Bool} {given : ℕ} (w : Within p) (clear : Cleared e b p pending given) where
   -- an interleave of 1 to n - 1
-  pub interleave-in : e .interleave ≡ true → (0 < b .extra) × (b .extra < p .sectors)
+  pub interleave-in : applies Interleave e ≡ true → (0 < b .extra) × (b .extra < p .sectors)
+  unfolding interleaveWrong
   interleave-in flag =
-      let o = or-off (ltb (b .extra) 1) (ltb (p .sectors - 1) (b .extra)) (and-off (e .interleave) _ flag (clear .interleave)) in
+      let o = or-off (ltb (b .extra) 1) (ltb (p .sectors - 1) (b .extra)) (and-off (applies Interleave e) _ flag (clear .interleave)) in
       (omega (arith, ltb-false (b .extra) 1 (o .0)), omega (arith, ltb-false (p .sectors - 1) (b .extra) (o .1), w .sectors-some))
 
   -- the address, and the last one of a count, is on the drive
-  pub reach-in : e .address ≡ true → 0 < reach e b → b .address .0 + reach e b ≤ trackCount p * p .sectors
+  pub reach-in : applies Address e ≡ true → 0 < reachOf (applies Counted e) b → b .address .0 + reachOf (applies Counted e) b ≤ trackCount p * p .sectors
+  unfolding pastEnd
   reach-in flag some =
-      omega (arith, ltb-false (lastAddress p .0) (b .address .0 + reach e b - 1) (and-off (e .address) _ flag (clear .address)), sectors-some p w)
+      omega (arith, ltb-false (lastAddress p .0) (b .address .0 + reachOf (applies Counted e) b - 1) (and-off (applies Address e) _ flag (clear .address)), sectors-some p w)
 
-  pub not-pending : e .settled ≡ true → e .whole ≡ false → pending ≡ false
-  not-pending flag some = by (pending-spared pending (e .settled) (e .whole) (eqb (trackOf p (b .address) .0) 0) flag (clear .settled))
+  pub not-pending : applies Settled e ≡ true → applies SparedWhole e ≡ false → pending ≡ false
+  unfolding notSpared
+  not-pending flag some = by (pending-spared pending (applies Settled e) (applies SparedWhole e) (eqb (trackOf p (b .address) .0) 0) flag (clear .unpended))
     where
-      by : (pending ≡ false) ⊎ ((e .whole ≡ true) × (eqb (trackOf p (b .address) .0) 0 ≡ true)) → pending ≡ false
+      by : (pending ≡ false) ⊎ ((applies SparedWhole e ≡ true) × (eqb (trackOf p (b .address) .0) 0 ≡ true)) → pending ≡ false
       by (inl off) = off
       by (inr o) = absurd (true≢false (sym (o .0) ∙ some))
 
   -- pending spares Format Drive from track 0 on only
-  pub pending-first : e .settled ≡ true → (pending ≡ false) ⊎ (trackOf p (b .address) .0 ≡ 0)
-  pending-first flag = by (pending-spared pending (e .settled) (e .whole) (eqb (trackOf p (b .address) .0) 0) flag (clear .settled))
+  pub pending-first : applies Settled e ≡ true → (pending ≡ false) ⊎ (trackOf p (b .address) .0 ≡ 0)
+  unfolding notSpared
+  pending-first flag = by (pending-spared pending (applies Settled e) (applies SparedWhole e) (eqb (trackOf p (b .address) .0) 0) flag (clear .unpended))
     where
-      by : (pending ≡ false) ⊎ ((e .whole ≡ true) × (eqb (trackOf p (b .address) .0) 0 ≡ true)) → (pending ≡ false) ⊎ (trackOf p (b .address) .0 ≡ 0)
+      by : (pending ≡ false) ⊎ ((applies SparedWhole e ≡ true) × (eqb (trackOf p (b .address) .0) 0 ≡ true)) → (pending ≡ false) ⊎ (trackOf p (b .address) .0 ≡ 0)
       by (inl off) = inl off
       by (inr o) = inr (eqb-true _ _ (o .1))
 
@@ -156,25 +172,25 @@ count-some b = by (eqb (b .extra) 0) refl
     by false e = rw (e, pick-false false 256 (b .extra) refl) (let ne = eqb-false (b .extra) 0 e in omega arith)
 
 -- a command on one track: settled, its track on the drive, its interleave good
-pub record OneTrack (b : Block) (p : Params) (pending : Bool) : Type 0 where
+pub record TrackCleared (b : Block) (p : Params) (pending : Bool) : Type 0 where
   pub calm : pending ≡ false
   pub ours : trackOf p (b .address) .0 < trackCount p
   pub inter : (0 < b .extra) × (b .extra < p .sectors)
 
-module _ {e : Entry} {b : Block} {p : Params} {pending : Bool} {given : ℕ} (w : Within p) (clear : Cleared e b p pending given) where
-  pub track-cleared : e .address ≡ true → e .counted ≡ false → trackOf p (b .address) .0 < trackCount p
-  unfolding reach
+module _ {e : TableRow} {b : Block} {p : Params} {pending : Bool} {given : ℕ} (w : Within p) (clear : Cleared e b p pending given) where
+  pub track-cleared : applies Address e ≡ true → applies Counted e ≡ false → trackOf p (b .address) .0 < trackCount p
+  unfolding reachOf
   track-cleared flag once =
-      let one : reach e b ≡ 1 = pick-false (e .counted) (countOf b) 1 once in
+      let one : reachOf (applies Counted e) b ≡ 1 = pick-false (applies Counted e) (countOf b) 1 once in
       track-in p w (b .address) (omega (arith, one, reach-in w clear flag (omega (arith, one))))
 
-  pub count-cleared : e .address ≡ true → e .counted ≡ true → b .address .0 + countOf b ≤ trackCount p * p .sectors
-  unfolding reach
+  pub count-cleared : applies Address e ≡ true → applies Counted e ≡ true → b .address .0 + countOf b ≤ trackCount p * p .sectors
+  unfolding reachOf
   count-cleared flag many =
-      let all : reach e b ≡ countOf b = pick-true (e .counted) (countOf b) 1 many in
+      let all : reachOf (applies Counted e) b ≡ countOf b = pick-true (applies Counted e) (countOf b) 1 many in
       omega (arith, all, reach-in w clear flag (omega (arith, all, count-some b)))
 
-  pub one-track : e .settled ≡ true → e .whole ≡ false → e .address ≡ true → e .counted ≡ false → e .interleave ≡ true → OneTrack b p pending
+  pub one-track : applies Settled e ≡ true → applies SparedWhole e ≡ false → applies Address e ≡ true → applies Counted e ≡ false → applies Interleave e ≡ true → TrackCleared b p pending
   one-track s o a n i = record {
     calm = not-pending w clear s o;
     ours = track-cleared a n;

@@ -1,7 +1,7 @@
 -- What follows from the engine's definition for any controller, block, data and images, and for any list of calls; and from the
 -- claim for zero images.
 use Prim.Native.Nat.{ℕ, zero, suc, _+_, _*_, _≤_, _<_}
-use mathlib.Core.Path.{_≡_, refl, sym, ap, ap₂, _∙_}
+use mathlib.Core.Path.{_≡_, refl, sym, ap, ap₂, subst, _∙_}
 use mathlib.Core.Bool.{true, false, not, true≢false}
 use mathlib.Core.List.{List, [], _∷_, map}
 use native.Mathlib.Omega.{arith}
@@ -27,21 +27,25 @@ use Rattle.sectors.specs.Transfer.{begun, found, writing}
 use Rattle.sectors.proofs.Founds.{found-first}
 use Rattle.model.specs.declared.block.Block.{Block}
 use Rattle.model.specs.declared.table.Command.{Command}
-use Rattle.model.specs.declared.table.Command.the-variants.{FormatDrive, Initialize}
+use Rattle.model.specs.declared.table.Command.the-variants.{Free, OnDisk}
+use Rattle.model.specs.declared.table.FreeCommand.{FreeCommand}
+use Rattle.model.specs.declared.table.FreeCommand.the-variants.{Initialize}
+use Rattle.model.specs.declared.table.DiskCommand.the-variants.{TrackWork}
+use Rattle.model.specs.declared.table.TrackCommand.the-variants.{FormatDrive}
 use Rattle.model.specs.declared.record.Drive.{Drive}
 use Rattle.model.specs.declared.record.Controller.{Controller}
 use Rattle.model.specs.Block.{blockOf}
-use Rattle.model.specs.Table.{entryOf}
+use Rattle.model.specs.Table.{rowFor}
 use Rattle.model.specs.Feed.{Feed, reset, command}
 use Rattle.model.specs.Record.{driveAt, settingIn, Effect}
-use Rattle.model.specs.Commands.{initialize, carryOut}
-use Rattle.model.specs.Engine.{Result, obey, imagesOf, imageOf, left, execute}
+use Rattle.model.specs.Engine.{Result, obey, imagesOf, imageOf, left, onDrive, execute}
 use Rattle.model.specs.Machine.{Machine, freshMachine}
 use Rattle.model.specs.Claim.{replies, atEnd, System, Call, Reset, Command as Commanded, fed, engineReplies, engineAtEnd}
 use Rattle.model.specs.Claim.{begin, beginMachine, Holds, Claim}
 use Rattle.model.proofs.claim.Claimed.{claimed}
-use Rattle.model.proofs.engine.Endings.{unmoved, Answered, accepted, unchanged, all-answered, images-kept}
-use Rattle.model.proofs.engine.Beyond.{unless-left, initialized-image, outside-kept}
+use Rattle.model.proofs.engine.Leaving.{Writes, untouched as as-lent, Obeyed, answered, denied, obeyed, images-kept}
+use Rattle.model.proofs.engine.Leaving.{unmoved, Answered, accepted, unchanged, all-answered}
+use Rattle.model.proofs.engine.Beyond.{outside-kept}
 use Rattle.model.proofs.engine.Written.{Written, writes}
 use Rattle.model.proofs.readers.PendingCalls.{from-fresh}
 use Rattle.model.proofs.anchors.Session.{Line, brief, lengthsOf, Answers, session, worked}
@@ -62,17 +66,17 @@ module _ (c : Controller) (block given area : List ℕ) (images : List (List ℕ
       by (unchanged number least most is) = rw is (most, refl)
 
 -- ---- (b) Bytes past the image length that the parameters in force give stay, whatever the command, and so does the image's length
-beyond : (b : Block) (given : List ℕ) (area : ℕ) (c : Controller) (image : List ℕ) (p : Params)
-    → settingIn (mediumOf (b .drive)) (driveAt c (b .drive)) (length image) ≡ Valid p
-    → (length (obey b given area c image .image) ≡ length image)
-    × ((at size : ℕ) → imageLength p ≤ at → part at size (obey b given area c image .image) ≡ part at size image)
-beyond b given area c image p valid =
-    let kept = outside-kept b given area c image 0 (omega arith) (λ is. refl) in (kept .len, kept .past p valid)
+beyond : (b : Block) (given : List ℕ) (area : ℕ) (entry : Drive) (buffer image : List ℕ) (p : Params)
+    → settingIn (mediumOf (b .drive)) entry (length image) ≡ Valid p
+    → (length (obey b given area entry buffer image .image) ≡ length image)
+    × ((at size : ℕ) → imageLength p ≤ at → part at size (obey b given area entry buffer image .image) ≡ part at size image)
+beyond b given area entry buffer image p valid =
+    let kept = outside-kept b given area entry buffer image 0 (omega arith) (λ is. refl) in (kept .len, kept .past p valid)
 
 -- and without parameters all bytes stay
-untouched : (b : Block) (given : List ℕ) (area : ℕ) (c : Controller) (image : List ℕ)
-    → settingIn (mediumOf (b .drive)) (driveAt c (b .drive)) (length image) ≡ Invalid → obey b given area c image .image ≡ image
-untouched b given area c image none = outside-kept b given area c image 0 (omega arith) (λ is. refl) .all none
+untouched : (b : Block) (given : List ℕ) (area : ℕ) (entry : Drive) (buffer image : List ℕ)
+    → settingIn (mediumOf (b .drive)) entry (length image) ≡ Invalid → obey b given area entry buffer image .image ≡ image
+untouched b given area entry buffer image none = outside-kept b given area entry buffer image 0 (omega arith) (λ is. refl) .all none
 
 -- ---- (c) A Write changes only the data bytes of slots that it found: the label, every ID and all other data stay
 module _ (p : Params) (w : Within p) (n a : ℕ) (given image : List ℕ) (fits : imageLength p ≤ length image)
@@ -102,27 +106,32 @@ module _ (p : Params) (w : Within p) (n a : ℕ) (given image : List ℕ) (fits 
       data-stay t k ht hk (λ i li here. true≢false (sym first ∙ found-first p (a + i) image t k here j s l second))
 
 -- ---- (d) Initialize leaves the images, those of hard disks and of floppies
-left-kept : (drive : ℕ) (e : Effect) (area : List ℕ) (images : List (List ℕ)) → e .image ≡ imageOf drive images
-    → left drive e area images .images ≡ images
+left-kept : (drive : ℕ) (e : Effect) (c : Controller) (area : List ℕ) (images : List (List ℕ)) → e .image ≡ imageOf drive images
+    → left drive e c area images .images ≡ images
 unfolding left
-left-kept drive e area images same = rw same (images-kept drive images)
+left-kept drive e c area images same = rw same (images-kept drive images)
 
-module _ (c : Controller) (given : List ℕ) where
-  initialize-obeyed : (b : Block) (area : ℕ) (image : List ℕ) → b .opcode ≡ 0x11 → obey b given area c image .image ≡ image
-  unfolding obey entryOf carryOut initialize
-  initialize-obeyed b area image is =
-      let medium = mediumOf (b .drive) in
-      let command : entryOf (b .opcode) .command ≡ Initialize = ap (λ (opcode : ℕ). entryOf opcode .command) is in
-      unless-left (λ (after : List ℕ). after ≡ image) _ b c image _ refl (λ passed.
-      ap (λ (k : Command). carryOut b (settingIn medium (driveAt c (b .drive)) (length image)) given c image k .image) command
-      ∙ initialized-image (settingOf medium (part 0 10 given) (length image)) b (part 0 10 given) c image)
+free-image : {command : FreeCommand} {image after : List ℕ} → Writes image (Free command) after → after ≡ image
+free-image as-lent = refl
 
-  initialize-leaves : (block area : List ℕ) (images : List (List ℕ)) → blockOf block .opcode ≡ 0x11 → execute c block given area images .images ≡ images
-  unfolding execute
-  initialize-leaves block area images is =
+module _ (given : List ℕ) where
+  initialize-obeyed : (b : Block) (area : ℕ) (entry : Drive) (buffer image : List ℕ) → b .opcode ≡ 0x11 → obey b given area entry buffer image .image ≡ image
+  unfolding rowFor
+  initialize-obeyed b area entry buffer image is =
+      let command : rowFor (b .opcode) .command ≡ Free Initialize = ap (λ (opcode : ℕ). rowFor opcode .command) is in
+      by (subst (λ (k : Command). Obeyed b given entry buffer image k (obey b given area entry buffer image)) command (obeyed b given area entry buffer image))
+    where
+      by : {e : Effect} → Obeyed b given entry buffer image (Free Initialize) e → e .image ≡ image
+      by (answered ends) = free-image (ends .writes)
+      by (denied number least most refusal) = ap (λ (e : Effect). e .image) refusal
+
+  initialize-leaves : (c : Controller) (block area : List ℕ) (images : List (List ℕ)) → blockOf block .opcode ≡ 0x11
+      → execute c block given area images .images ≡ images
+  unfolding execute onDrive
+  initialize-leaves c block area images is =
       let drive = blockOf block .drive in
       pick-both (λ (r : Result). r .images ≡ images) (eqb (length block) 6) _ _
-      (left-kept drive _ area images (initialize-obeyed (blockOf block) (length area) (imageOf drive images) is)) refl
+      (left-kept drive _ c area images (initialize-obeyed (blockOf block) (length area) (driveAt c drive) (c .buffer) (imageOf drive images) is)) refl
 
 -- ---- (e) Zeros are no label, of a hard disk or of a floppy: the claim holds for four zero images of any lengths
 abbrev zeros : ℕ → List ℕ
@@ -219,10 +228,10 @@ engine-floppies =
     )
 
 -- ---- (f) No command but Format Drive changes a byte of a label
-label-obeyed : (b : Block) (given : List ℕ) (area : ℕ) (c : Controller) (image : List ℕ)
-    → (entryOf (b .opcode) .command ≡ FormatDrive → ⊥) → part 0 16 (obey b given area c image .image) ≡ part 0 16 image
-label-obeyed b given area c image other =
-    outside-kept b given area c image 16 (omega arith) (λ is. absurd (other is)) .below 0 16 (omega arith)
+label-obeyed : (b : Block) (given : List ℕ) (area : ℕ) (entry : Drive) (buffer image : List ℕ)
+    → (rowFor (b .opcode) .command ≡ OnDisk (TrackWork FormatDrive) → ⊥) → part 0 16 (obey b given area entry buffer image .image) ≡ part 0 16 image
+label-obeyed b given area entry buffer image other =
+    outside-kept b given area entry buffer image 16 (omega arith) (λ is. absurd (other is)) .below 0 16 (omega arith)
 
 -- the labels of all images lent
 abbrev labelsOf : List (List ℕ) → List (List ℕ)
@@ -230,16 +239,17 @@ labelsOf images = map (part 0 16) images
 
 module _ (c : Controller) (block given area : List ℕ) (images : List (List ℕ)) where
   left-labels : (drive : ℕ) (e : Effect) → part 0 16 (e .image) ≡ part 0 16 (imageOf drive images)
-      → labelsOf (left drive e area images .images) ≡ labelsOf images
+      → labelsOf (left drive e c area images .images) ≡ labelsOf images
   unfolding left imageOf
   left-labels drive e same = map-set-same (part 0 16) images drive (e .image) [] same
 
-  labels-left : (entryOf (blockOf block .opcode) .command ≡ FormatDrive → ⊥) → labelsOf (execute c block given area images .images) ≡ labelsOf images
-  unfolding execute
+  labels-left : (rowFor (blockOf block .opcode) .command ≡ OnDisk (TrackWork FormatDrive) → ⊥)
+      → labelsOf (execute c block given area images .images) ≡ labelsOf images
+  unfolding execute onDrive
   labels-left other =
       let b = blockOf block in
       pick-both (λ (r : Result). labelsOf (r .images) ≡ labelsOf images) (eqb (length block) 6) _ _
-      (left-labels (b .drive) _ (label-obeyed b given (length area) c (imageOf (b .drive) images) other)) refl
+      (left-labels (b .drive) _ (label-obeyed b given (length area) (driveAt c (b .drive)) (c .buffer) (imageOf (b .drive) images) other)) refl
 
 -- ---- (g) In any list from a fresh controller, on any images, each call lent the controller and images that the call before left:
 -- parameters are pending exactly where the label does not hold them

@@ -22,11 +22,11 @@ use Rattle.model.specs.Machine.{Passage, finished, withFirst, passing, r
 abbrev pub lba : ℕ → Lba
 lba a = record { 0 = a }
 
-pub stops-bad : (a : Lba) → judged (denied bad a) Passed ≡ Faulty 0x19 a
+pub stops-bad : (a : Lba) → judged (denied bad a) ≡ Faulty 0x19 a
 unfolding judged denied isBad isTaken pick
 stops-bad a = refl
 
-pub stops-taken : (t : Track) (a : Lba) → judged (denied (taken t) a) Passed ≡ Faulty 0x1C a
+pub stops-taken : (t : Track) (a : Lba) → judged (denied (taken t) a) ≡ Faulty 0x1C a
 unfolding judged denied isBad isTaken pick
 stops-taken t a = refl
 
@@ -53,7 +53,7 @@ stops v u x code at e = rw e
 module _ (p : Params) where
   -- what the state of the track of address a says
   abbrev pub says : Disk → ℕ → Verdict
-  says u a = judged (denied (u .kind (trackOf p (lba a))) (lba a)) Passed
+  says u a = judged (denied (u .kind (trackOf p (lba a))) (lba a))
 
   says-stored : (a b : ℕ) (sector : List ℕ) (u : Disk) → says (storing (lba a) sector u) b ≡ says u b
   unfolding storing

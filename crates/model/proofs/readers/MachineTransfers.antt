@@ -44,7 +44,7 @@ data Denied : Kind → (code : ℕ) → Type 0 where
   by-bad : Denied bad 0x19
   by-taken : {t : Track} → Denied (taken t) 0x1C
 
-denied-says : {kind : Kind} {code : ℕ} → Denied kind code → (a : Lba) → judged (denied kind a) Passed ≡ Faulty code a
+denied-says : {kind : Kind} {code : ℕ} → Denied kind code → (a : Lba) → judged (denied kind a) ≡ Faulty code a
 denied-says by-bad a = stops-bad a
 denied-says (by-taken {t}) a = stops-taken t a
 

@@ -1,140 +1,78 @@
 -- Parameters are pending exactly when the label does not hold them: fresh, and after every call, whatever the images.
-use Prim.Native.Nat.{ℕ, _<_}
-use mathlib.Core.Path.{_≡_, refl, sym, ap, _∙_}
-use mathlib.Core.Bool.{true, not}
+use Prim.Native.Nat.{ℕ, _≤_, _<_}
+use mathlib.Core.Path.{_≡_, refl, _∙_}
 use mathlib.Core.List.{List, [], _∷_}
 use native.Mathlib.Omega.{arith}
-use native.Mathlib.Decide.{ℕ-discrete}
-use lib.ListN.{length}
+use native.Mathlib.Decide.{ℕ-discrete, decLt}
+use lib.ListN.{length, List·getD-eq-default}
 use lib.Dec.{eqb}
 use Rattle.base.proofs.Decide.{pick-both}
-use Rattle.geometry.specs.declared.params.Lba.{Lba}
-use Rattle.geometry.specs.declared.medium.Medium.{Medium}
-use Rattle.geometry.specs.declared.config.Setting.{Setting}
-use Rattle.geometry.specs.declared.config.Setting.the-variants.{Valid, Invalid}
 use Rattle.geometry.specs.Medium.{mediumOf}
-use Rattle.geometry.specs.Config.{settingOf, labelHolds}
-use Rattle.model.specs.declared.block.Block.{Block}
-use Rattle.model.specs.declared.table.Command.{Command}
-use Rattle.model.specs.declared.table.Command.the-variants.{FormatDrive}
-use Rattle.model.specs.declared.table.Entry.{Entry}
-use Rattle.model.specs.declared.record.Drive.{Drive}
 use Rattle.model.specs.declared.record.Controller.{Controller}
-use Rattle.model.specs.declared.verdict.Verdict.{Verdict}
-use Rattle.model.specs.declared.verdict.Verdict.the-variants.{Refused, Faulty, Passed}
 use Rattle.model.specs.Block.{blockOf}
-use Rattle.model.specs.Table.{entryOf}
-use Rattle.model.specs.Checks.{judge}
-use Rattle.model.specs.Record.{driveAt, withDrive, settingIn, bareOutcome, failedOutcome, goodOutcome}
-use Rattle.model.specs.Record.{Effect, refused, failed, good, unless}
-use Rattle.model.specs.Commands.{settled, formatDrive, onDisk, carryOut}
-use Rattle.model.specs.Engine.{viewOf, obey, Result, imageOf, left, execute, resetOf}
-use Rattle.model.specs.Machine.{changed}
-use Rattle.model.specs.Claim.{System, Call, Reset, Command as Commanded, replied, called, engineAtEnd, begin}
-use Rattle.model.proofs.claim.Ends.{changed-back}
-use Rattle.model.proofs.engine.Checked.{opcodeFor, row-of}
-use Rattle.model.proofs.claim.Current.{setting-known}
-use Rattle.model.proofs.claim.Called.{left-images, drive-below}
-use Rattle.model.proofs.engine.Endings.{Makes, nothing, buffer, initial, formatted, sense, ended, Obeyed, answered, denied, obeyed}
-use Rattle.model.proofs.engine.Beyond.{format-label, outside-kept}
-use Rattle.model.proofs.readers.PendingDrives.{AllPendingByLabel, initialized-pending, format-holds, holds-kept, fresh-by-label}
-use Rattle.model.proofs.readers.PendingDrives.{images-by-label, buffer-by-label, image-by-label, entry-by-label, both-by-label, sense-by-label}
+use Rattle.model.specs.Record.{blankDrive, driveAt, Effect}
+use Rattle.model.specs.Engine.{obey, Result, imageOf, left, onDrive, execute, fresh, resetOf}
+use Rattle.model.specs.Claim.{System, Call, Reset, Command, replied, called, engineAtEnd, begin}
+use Rattle.model.proofs.engine.Assembled.{drive-below, drives-length, own-entry, other-entry, own-image, other-image}
+use Rattle.model.proofs.engine.Beyond.{outside-kept}
+use Rattle.model.proofs.claim.Restarted.{fresh-drive}
+use Rattle.model.proofs.readers.PendingDrives.{PendingByLabel, blank-pending, loaded-pending, obey-pending}
 
--- ---- Commands
-format? : (opcode : ℕ) → Dec (entryOf opcode .command ≡ FormatDrive)
-unfolding entryOf opcodeFor
-format? opcode = by (ℕ-discrete (opcodeFor (entryOf opcode .command)) 4)
+-- all drives, of which there are four; one past them has no parameters
+pub record AllPendingByLabel (c : Controller) (images : List (List ℕ)) : Type 0 where
+  pub four : length (c .drives) ≡ 4
+  pub drives : (d : ℕ) → PendingByLabel (mediumOf d) (driveAt c d) (imageOf d images)
+
+-- ---- Fresh
+fresh-past : (images : List (List ℕ)) (d : ℕ) → 4 ≤ d → driveAt (fresh images) d ≡ blankDrive
+unfolding driveAt fresh
+fresh-past images d h = List·getD-eq-default (fresh images .drives) blankDrive h
+
+fresh-by-label : (images : List (List ℕ)) → AllPendingByLabel (fresh images) images
+unfolding fresh
+fresh-by-label images = record { four = refl; drives = λ d. by d (decLt d 4) }
   where
-    by : Dec (opcodeFor (entryOf opcode .command) ≡ 4) → Dec (entryOf opcode .command ≡ FormatDrive)
-    by (yes e) = yes (ap (λ (r : Entry). r .command) (row-of opcode ∙ ap entryOf e))
-    by (no ne) = no (λ is. ne (ap opcodeFor is))
-
-module _ (b : Block) (given : List ℕ) (area : ℕ) (h : b .drive < 4) (c : Controller) (images : ℕ → List ℕ)
-    (told : AllPendingByLabel c images) where
-  abbrev medium : Medium
-  medium = mediumOf (b .drive)
-
-  abbrev entry : Drive
-  entry = driveAt c (b .drive)
-
-  abbrev image : List ℕ
-  image = images (b .drive)
-
-  -- one but Format Drive: the controller, by the label as it was
-  module _ (command : Command) (other : command ≡ FormatDrive → ⊥) where
-    makes-by-label : {d : Controller} → Makes (b .drive) c image command d → AllPendingByLabel d images
-    makes-by-label nothing = told
-    makes-by-label (buffer bytes) = buffer-by-label c images told bytes
-    makes-by-label (initial is config) = entry-by-label c images told (b .drive) h _ (initialized-pending medium config entry image)
-    makes-by-label (formatted is) = absurd (other is)
-    makes-by-label (sense bytes m) = sense-by-label _ images (makes-by-label m) (b .drive) h bytes
-
-    obeyed-by-label : (e : Effect) → Obeyed b c image command e → AllPendingByLabel (e .outcome .controller) images
-    unfolding refused bareOutcome
-    obeyed-by-label e (answered (ended number makes)) = makes-by-label makes
-    obeyed-by-label e (denied number least most is) = rw is told
-
-  -- controller and image
-  abbrev Leaves : Effect → Type 0
-  Leaves e = AllPendingByLabel (e .outcome .controller) (changed images (b .drive) (e .image))
-
-  failed-leaves : (code : ℕ) (at : Lba) → Leaves (failed b code at 0 [] c image)
-  unfolding failed failedOutcome
-  failed-leaves code at = images-by-label _ images (sense-by-label c images told (b .drive) h _) _ (changed-back images (b .drive))
-
-  unless-leaves : (v : Verdict) (e : Effect) → (v ≡ Passed → Leaves e) → Leaves (unless v b c image e)
-  unfolding unless refused bareOutcome
-  unless-leaves (Refused number) e new = images-by-label c images told _ (changed-back images (b .drive))
-  unless-leaves (Faulty code at) e new = failed-leaves code at
-  unless-leaves Passed e new = new refl
-
-  -- Format Drive
-  format-leaves : (after : List ℕ) → labelHolds medium after (entry .config) ≡ true → Leaves (good b 0 [] (withDrive (b .drive) (settled entry) c) after)
-  unfolding good goodOutcome settled
-  format-leaves after holds =
-      let renewed = both-by-label c images told (b .drive) h (settled entry) after (λ known. sym (ap not holds)) in
-      sense-by-label _ _ renewed (b .drive) h _
-
-  carried-leaves : entryOf (b .opcode) .command ≡ FormatDrive → judge b (viewOf medium entry (length image)) (length given) area ≡ Passed
-      → (s : Setting) → settingIn medium entry (length image) ≡ s → Leaves (carryOut b s given c image FormatDrive)
-  unfolding carryOut onDisk formatDrive
-  carried-leaves is passed Invalid e = failed-leaves 0x0A (b .address)
-  carried-leaves is passed (Valid p) e =
-      let made = format-label b given area c image passed p e is in
-      let valid = ap (settingOf medium (entry .config)) (made .0) ∙ setting-known medium entry (length image) p e in
-      unless-leaves _ _ (λ ok. format-leaves _ (format-holds medium (entry .config) _ p (made .1) valid))
-
-  obey-leaves : Dec (entryOf (b .opcode) .command ≡ FormatDrive) → Leaves (obey b given area c image)
-  unfolding obey
-  obey-leaves (yes is) = unless-leaves _ _ (λ passed. rw is (carried-leaves is passed _ refl))
-  obey-leaves (no other) =
-      let made = obeyed-by-label _ other _ (obeyed b given area c image) in
-      let kept = outside-kept b given area c image 16 (omega arith) (λ is. absurd (other is)) in
-      image-by-label _ images made (b .drive) _ (λ known.
-      made .drives (b .drive) known ∙ ap not (sym (holds-kept medium image _ _ (record { len = kept .len; label = kept .below }))))
+    by : (d : ℕ) → Dec (d < 4) → PendingByLabel (mediumOf d) (driveAt (fresh images) d) (imageOf d images)
+    by d (yes h) = rw (fresh-drive images d h) (loaded-pending d (imageOf d images))
+    by d (no h) = rw (fresh-past images d (omega (arith, h))) (blank-pending (mediumOf d) (imageOf d images))
 
 -- ---- Calls
 abbrev AllIn : System → Type 0
-AllIn s = AllPendingByLabel (s .controller) (λ d. imageOf d (s .images))
+AllIn s = AllPendingByLabel (s .controller) (s .images)
 
 abbrev systemOf : Result → System
 systemOf r = record { controller = r .outcome .controller; images = r .images }
 
-module _ (c : Controller) (block given area : List ℕ) (images : List (List ℕ)) (told : AllPendingByLabel c (λ d. imageOf d images)) where
-  execute-by-label : AllIn (systemOf (execute c block given area images))
-  unfolding execute left bareOutcome
-  execute-by-label =
+module _ (c : Controller) (area : List ℕ) (images : List (List ℕ)) (told : AllPendingByLabel c images) where
+  -- where the entry and the image of its drive are by the label, all are
+  left-by-label : (drive : ℕ) (e : Effect) → drive < 4 → length (e .image) ≡ length (imageOf drive images)
+      → PendingByLabel (mediumOf drive) (e .ending .entry) (e .image) → AllIn (systemOf (left drive e c area images))
+  left-by-label drive e h len new = record {
+    four = drives-length drive e c area images ∙ told .four;
+    drives = λ d. by d (ℕ-discrete d drive);
+  }
+    where
+      by : (d : ℕ) → Dec (d ≡ drive)
+          → PendingByLabel (mediumOf d) (driveAt (left drive e c area images .outcome .controller) d) (imageOf d (left drive e c area images .images))
+      by d (yes q) = rw (q, own-entry drive e c area images (omega (arith, told .four)), own-image drive e c area images len) new
+      by d (no q) = rw (other-entry drive e c area images d q, other-image drive e c area images d q) (told .drives d)
+
+  execute-by-label : (block given : List ℕ) → AllIn (systemOf (execute c block given area images))
+  unfolding execute onDrive
+  execute-by-label block given =
       let b = blockOf block in
-      let len = outside-kept b given (length area) c (imageOf (b .drive) images) 0 (omega arith) (λ is. refl) .len in
+      let entry = driveAt c (b .drive) in
+      let image = imageOf (b .drive) images in
       pick-both (λ (r : Result). AllIn (systemOf r)) (eqb (length block) 6) _ _
-      (images-by-label _ _
-      (obey-leaves b given (length area) (drive-below block) c (λ d. imageOf d images) told (format? (b .opcode)))
-      _ (left-images (b .drive) _ images len)) told
+      (left-by-label (b .drive) (obey b given (length area) entry (c .buffer) image) (drive-below block)
+      (outside-kept b given (length area) entry (c .buffer) image 0 (omega arith) (λ is. refl) .len)
+      (obey-pending b given (length area) entry (c .buffer) image (told .drives (b .drive))))
+      told
 
 call-by-label : (s : System) (call : Call) → AllIn s → AllIn (called s call .1)
-unfolding called replied resetOf bareOutcome
+unfolding called replied resetOf
 call-by-label s Reset told = fresh-by-label (s .images)
-call-by-label s (Commanded block given area) told = execute-by-label (s .controller) block given area (s .images) told
+call-by-label s (Command block given area) told = execute-by-label (s .controller) area (s .images) told block given
 
 run-by-label : (calls : List Call) (s : System) → AllIn s → AllIn (engineAtEnd s calls)
 unfolding engineAtEnd

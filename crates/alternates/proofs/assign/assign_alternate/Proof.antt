@@ -1,6 +1,7 @@
 use Prim.Native.Nat.{_<_}
 use native.Mathlib.Omega.{arith}
 use lib.ListN.{getD}
+use Rattle.model.specs.Premises.{addressLimit}
 use Rattle.formats.proofs.Makings.{bound-of}
 use Rattle.alternates.proofs.Assigns.{passed-in, fault-below, alternate-below, assign-refused, assign-fails, assign-well}
 use borrow.Author.Needs.{needs}
@@ -34,8 +35,8 @@ failed-requires c κs =
     let h₂ : getD (a .args .given .now) 2 0 < 256 = omega (arith, known 2) in
     let below = alternate-below _ _ (alternate .alternate-of .ensures) h₁ h₂ in
     let judged = c .before .before .before .assign-faults .ensures in
-    let fault = fault-below _ _ _ _ _ _ judged 2097152 (a .pre .2) below _ _ (c .before .verdict2 .given .1) in
-    (a .pre .1, fault .0, fault .1)
+    let fault = fault-below _ _ _ _ _ _ judged addressLimit (a .pre .0 .block .address) below _ _ (c .before .verdict2 .given .1) in
+    (a .pre .0 .block .drive, a .pre .0 .block .drive, fault .0, fault .1)
 
 enum-told : tie.Need-enum-told
 enum-told c = search needs
@@ -62,16 +63,18 @@ make-pair-requires : tie.Need-make-pair-requires
 make-pair-requires c κs =
     let judged = c .before .before .before .before .before .before .before .before in
     let a = c .before .before .before .before .before .before .before .before .before .before .before .before .before .before .before .before in
-    let in-drive = passed-in _ _ _ _ _ _ (judged .assign-faults .ensures) (a .pre .0 .within) (c .before .before .before .before .before .before .enum-told .given .1) in (
-      a .pre .0,
-      bound-of _ _ _ (c .before .before .before .track-of .ensures) (a .pre .3),
+    let in-drive = passed-in _ _ _ _ _ _ (judged .assign-faults .ensures) (a .pre .0 .fits .within) (c .before .before .before .before .before .before .enum-told .given .1) in (
+      a .pre .0 .fits,
+      bound-of _ _ _ (c .before .before .before .track-of .ensures) (a .pre .0 .track),
       bound-of _ _ _ (c .before .before .track-of2 .ensures) in-drive,
-      a .pre .4,
+      a .pre .0 .interleave,
       search needs,
     )
 
 good-requires : tie.Need-good-requires
-good-requires c κs = search needs
+good-requires c κs =
+    let a = c .before .before .before .before .before .before .before .before .before .before .before .before .before .before .before .before .before .before .before in
+    a .pre .0 .block .drive
 
 same-length : tie.Need-same-length
 same-length c = search needs
@@ -79,8 +82,8 @@ same-length c = search needs
 returns : tie.Need-returns
 returns c =
     let judged = c .before .before .before .before in
-    assign-refused _ _ _ _ _ _ _ (judged .before .before .before .alternate-of .ensures) _ (judged .assign-faults .ensures)
-    _ (c .before .before .verdict .given .1) (c .refused .ensures _)
+    assign-refused _ _ _ _ _ _ _ _ (judged .before .before .before .alternate-of .ensures) _ (judged .assign-faults .ensures)
+    _ (c .before .before .verdict .given .1) (c .refused .ensures)
 
 same-length-2 : tie.Need-same-length-2
 same-length-2 c = search needs
@@ -88,17 +91,22 @@ same-length-2 c = search needs
 returns-2 : tie.Need-returns-2
 returns-2 c =
     let judged = c .before .before .before .before in
-    assign-fails _ _ _ _ _ _ _ (judged .before .before .before .alternate-of .ensures) _ (judged .assign-faults .ensures)
-    _ _ (c .before .before .verdict2 .given .1) (c .failed .ensures _)
+    assign-fails _ _ _ _ _ _ _ _ (judged .before .before .before .alternate-of .ensures) _ (judged .assign-faults .ensures)
+    _ _ (c .before .before .verdict2 .given .1) (c .failed .ensures)
 
 same-length-3 : tie.Need-same-length-3
 same-length-3 c = search needs
 
 returns-3 : tie.Need-returns-3
 returns-3 c =
-    assign-well _ _ _ _ _ _ _ (c .before .before .before .before .before .before .before .before .before .before .before .before .before .before .before .alternate-of .ensures) _ (c .before .before .before .before .before .before .before .before .before .before .before .before .assign-faults .ensures)
-    _ _ _ _ (c .before .before .before .before .before .before .before .before .before .before .enum-told .given .1) (c .before .before .before .before .before .before .before .track-of .ensures) (c .before .before .before .before .before .before .track-of2 .ensures)
-    (c .before .before .before .before .before .before .before .before .before .fill-of .ensures .0) (c .before .before .before .make-pair .ensures) (c .good2 .ensures _)
+    let paired = c .before .before .before in
+    let to = paired .before .before .before in
+    let filled = to .before .before .before in
+    let told = filled .before in
+    let judged = told .before .before in
+    assign-well _ _ _ _ _ _ _ _ (judged .before .before .before .alternate-of .ensures) _ (judged .assign-faults .ensures)
+    _ _ _ _ (told .enum-told .given .1) (to .before .track-of .ensures) (to .track-of2 .ensures)
+    (filled .fill-of .ensures .0) (paired .make-pair .ensures) (c .good2 .ensures)
 
 pub assign-alternate-spec : {M : Type 1} → statement M
 assign-alternate-spec =

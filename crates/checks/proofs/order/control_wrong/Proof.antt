@@ -10,7 +10,7 @@ unfolding controlWrong
 returns c = search (needs, decide)
 
 returns-2 : tie.Need-returns-2
-returns-2 c = wrong-fill _ _ (c .before .before .if1 .left) (c .before .if2 .taken)
+returns-2 c = wrong-fill _ _ (c .before .if1 .left) (c .if2 .taken)
 
 returns-3 : tie.Need-returns-3
 returns-3 c = wrong-other _ _ (c .before .if1 .left) (c .if2 .left)

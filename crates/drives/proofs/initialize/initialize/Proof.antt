@@ -21,31 +21,25 @@ failed-requires c κs = search needs
 enum-told-2 : tie.Need-enum-told-2
 enum-told-2 c = search needs
 
-drive-at-requires : tie.Need-drive-at-requires
-drive-at-requires c κs = search needs
-
 label-holds-requires : tie.Need-label-holds-requires
 label-holds-requires c κs = search needs
-
-with-drive-requires : tie.Need-with-drive-requires
-with-drive-requires c κs = search needs
 
 good-requires : tie.Need-good-requires
 good-requires c κs = search needs
 
 returns : tie.Need-returns
-returns c buffer =
+returns c =
     let s = c .before .before .before in
     initialize-invalid _ _ _ _ _ _ _ _ (s .before .before .config-in .ensures) (s .before .medium-of .ensures) (s .setting-of .ensures)
-    (c .before .enum-told .given .1) (c .failed .ensures buffer)
+    (c .before .enum-told .given .1) (c .failed .ensures)
 
 returns-2 : tie.Need-returns-2
-returns-2 c buffer =
-    let h = c .before .before in
-    let d = h .before .before in
-    let s = d .before .before .before in
+returns-2 c =
+    let h = c .before in
+    let told = h .before .before in
+    let s = told .before .before in
     initialize-valid _ _ _ _ _ _ _ _ (s .before .before .config-in .ensures) (s .before .medium-of .ensures) (s .setting-of .ensures)
-    _ (d .before .enum-told2 .given .1) _ (d .drive-at .ensures) _ (h .label-holds .ensures) _ (c .before .with-drive .ensures) (c .good2 .ensures buffer)
+    _ (told .enum-told2 .given .1) _ (h .label-holds .ensures) (c .good2 .ensures)
 
 pub initialize-spec : {M : Type 1} → statement M
 initialize-spec =
@@ -57,9 +51,7 @@ initialize-spec =
     enum-told
     failed-requires
     enum-told-2
-    drive-at-requires
     label-holds-requires
-    with-drive-requires
     good-requires
     returns
     returns-2)

@@ -1,5 +1,4 @@
 use Rattle.model.specs.Engine.{resetOf}
-use Rattle.model.specs.Record.{bareOutcome}
 use borrow.Author.Needs.{needs}
 use Rattle.engine.proofs.reset.reset.Statement.{statement}
 use Rattle.engine.proofs.reset.reset.Tie as tie
@@ -11,7 +10,7 @@ bare-answer-requires : tie.Need-bare-answer-requires
 bare-answer-requires c κs = search needs
 
 returns : tie.Need-returns
-unfolding resetOf bareOutcome
+unfolding resetOf
 returns c = rw (c .bare-answer .ensures, c .before .fresh .ensures)
 
 pub reset-spec : {M : Type 1} → statement M

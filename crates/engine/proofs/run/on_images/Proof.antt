@@ -1,5 +1,4 @@
 use Rattle.model.specs.Engine.{imagesOf}
-use Rattle.endings.specs.Leaves.{recordOf}
 use Rattle.engine.proofs.Executes.{on-image, fourth}
 use borrow.Author.Needs.{needs}
 use Rattle.engine.proofs.run.on_images.Statement.{statement}
@@ -19,11 +18,9 @@ same-length-3 c = search needs
 
 returns : tie.Need-returns
 returns c =
-    let o = c .before .before .before .before .before .before in
-    let s = o .before .before .before .before .before .before .before .before .before .before .before .before .before in
-    let a = s .args in
-    on-image (a .b) (a .given .now) (recordOf (a .buffer .now) (a .drives)) (a .area .now)
-    (imagesOf (a .image0 .now) (a .image1 .now) (a .image2 .now) (a .image3 .now)) _ _ _ 0 (o .before .before .before .before .if1 .taken) (o .obey .ensures)
+    let a = c .before .before .before .before .before .before .before .before .before .before .before .before .before .before .before .before .before .before .before .args in
+    on-image (a .b) (a .given .now) (a .entry) (a .buffer .now) (a .area .now) (imagesOf (a .image0 .now) (a .image1 .now) (a .image2 .now) (a .image3 .now)) _ _ _ _ 0
+    (c .before .before .before .before .before .before .before .before .before .before .if1 .taken) (c .before .before .before .before .before .before .obey .ensures)
 
 obey-requires-2 : tie.Need-obey-requires-2
 obey-requires-2 c κs = search needs
@@ -39,11 +36,9 @@ same-length-6 c = search needs
 
 returns-2 : tie.Need-returns-2
 returns-2 c =
-    let o = c .before .before .before .before .before .before in
-    let s = o .before .before .before .before .before .before .before .before .before .before .before .before .before .before .before in
-    let a = s .args in
-    on-image (a .b) (a .given .now) (recordOf (a .buffer .now) (a .drives)) (a .area .now)
-    (imagesOf (a .image0 .now) (a .image1 .now) (a .image2 .now) (a .image3 .now)) _ _ _ 1 (o .before .before .before .before .if2 .taken) (o .obey2 .ensures)
+    let a = c .before .before .before .before .before .before .before .before .before .before .before .before .before .before .before .before .before .before .before .before .before .args in
+    on-image (a .b) (a .given .now) (a .entry) (a .buffer .now) (a .area .now) (imagesOf (a .image0 .now) (a .image1 .now) (a .image2 .now) (a .image3 .now)) _ _ _ _ 1
+    (c .before .before .before .before .before .before .before .before .before .before .if2 .taken) (c .before .before .before .before .before .before .obey2 .ensures)
 
 obey-requires-3 : tie.Need-obey-requires-3
 obey-requires-3 c κs = search needs
@@ -59,11 +54,9 @@ same-length-9 c = search needs
 
 returns-3 : tie.Need-returns-3
 returns-3 c =
-    let o = c .before .before .before .before .before .before in
-    let s = o .before .before .before .before .before .before .before .before .before .before .before .before .before .before .before .before .before in
-    let a = s .args in
-    on-image (a .b) (a .given .now) (recordOf (a .buffer .now) (a .drives)) (a .area .now)
-    (imagesOf (a .image0 .now) (a .image1 .now) (a .image2 .now) (a .image3 .now)) _ _ _ 2 (o .before .before .before .before .if3 .taken) (o .obey3 .ensures)
+    let a = c .before .before .before .before .before .before .before .before .before .before .before .before .before .before .before .before .before .before .before .before .before .before .before .args in
+    on-image (a .b) (a .given .now) (a .entry) (a .buffer .now) (a .area .now) (imagesOf (a .image0 .now) (a .image1 .now) (a .image2 .now) (a .image3 .now)) _ _ _ _ 2
+    (c .before .before .before .before .before .before .before .before .before .before .if3 .taken) (c .before .before .before .before .before .before .obey3 .ensures)
 
 obey-requires-4 : tie.Need-obey-requires-4
 obey-requires-4 c κs = search needs
@@ -79,12 +72,9 @@ same-length-12 c = search needs
 
 returns-4 : tie.Need-returns-4
 returns-4 c =
-    let o = c .before .before .before .before .before .before in
-    let s = o .before .before .before .before .before .before .before .before .before .before .before .before .before .before .before .before .before in
-    let a = s .args in
-    on-image (a .b) (a .given .now) (recordOf (a .buffer .now) (a .drives)) (a .area .now)
-    (imagesOf (a .image0 .now) (a .image1 .now) (a .image2 .now) (a .image3 .now)) _ _ _ 3
-    (fourth _ (s .pre .0) (o .before .before .before .before .before .before .before .before .if1 .left) (o .before .before .before .before .before .before .if2 .left) (o .before .before .before .before .if3 .left)) (o .obey4 .ensures)
+    let a = c .before .before .before .before .before .before .before .before .before .before .before .before .before .before .before .before .before .before .before .before .before .before .before .args in
+    on-image (a .b) (a .given .now) (a .entry) (a .buffer .now) (a .area .now) (imagesOf (a .image0 .now) (a .image1 .now) (a .image2 .now) (a .image3 .now)) _ _ _ _ 3
+    (fourth _ (c .before .before .before .before .before .before .before .before .before .before .before .before .before .before .before .before .before .before .before .before .before .before .before .pre .0 .drive) (c .before .before .before .before .before .before .before .before .before .before .before .before .before .before .if1 .left) (c .before .before .before .before .before .before .before .before .before .before .before .before .if2 .left) (c .before .before .before .before .before .before .before .before .before .before .if3 .left)) (c .before .before .before .before .before .before .obey4 .ensures)
 
 pub on-images-spec : {M : Type 1} → statement M
 on-images-spec =

@@ -25,29 +25,29 @@ part-check-track-end c = search needs
 check-track-requires : tie.Need-check-track-requires
 check-track-requires c κs =
     let a = c .before .before .before .before .before .before .before in
-    (a .pre .0, bound-of _ _ _ (c .before .before .track-of .ensures) (a .pre .3), search needs)
+    (a .pre .fits, bound-of _ _ _ (c .before .before .track-of .ensures) (a .pre .track), search needs)
 
 failed-requires : tie.Need-failed-requires
 failed-requires c κs =
     let a = c .before .before .before .before .before .before .before .before .before in
-    (a .pre .1, check-below _ _ _ _ _ (c .before .check-track .ensures), a .pre .2)
+    (a .pre .block .drive, a .pre .block .drive, check-below _ _ _ _ _ (c .before .check-track .ensures), a .pre .block .address)
 
 returns : tie.Need-returns
-returns c buffer =
+returns c =
     let checked = c .before .before in
     let asked = checked .before .before .before in
-    check-fails _ _ _ _ _ _ _ _ (asked .before .before .before .before .before .pre .4) (asked .before .layout .ensures)
-    (asked .track-of .ensures) (checked .check-track .ensures) (c .before .if1 .taken) (c .failed .ensures buffer)
+    check-fails _ _ _ _ _ _ _ _ (asked .before .before .before .before .before .pre .interleave) (asked .before .layout .ensures)
+    (asked .track-of .ensures) (checked .check-track .ensures) (c .before .if1 .taken) (c .failed .ensures)
 
 good-requires : tie.Need-good-requires
 good-requires c κs = search needs
 
 returns-2 : tie.Need-returns-2
-returns-2 c buffer =
+returns-2 c =
     let checked = c .before .before in
     let asked = checked .before .before .before in
-    check-well _ _ _ _ _ _ _ _ (asked .before .before .before .before .before .pre .4) (asked .before .layout .ensures)
-    (asked .track-of .ensures) (checked .check-track .ensures) (c .before .if1 .left) (c .good2 .ensures buffer)
+    check-well _ _ _ _ _ _ _ _ (asked .before .before .before .before .before .pre .interleave) (asked .before .layout .ensures)
+    (asked .track-of .ensures) (checked .check-track .ensures) (c .before .if1 .left) (c .good2 .ensures)
 
 pub check-track-spec : {M : Type 1} → statement M
 check-track-spec =

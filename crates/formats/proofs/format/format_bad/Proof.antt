@@ -1,7 +1,6 @@
 use Rattle.track.specs.declared.state.State.the-variants.{Bad}
 use Rattle.track.specs.State.{partnerOf}
 use Rattle.model.specs.Commands.{formatTrack}
-use Rattle.endings.specs.Leaves.{recordOf}
 use Rattle.formats.proofs.Makings.{plain-of, fill-lent}
 use native.Mathlib.Omega.{arith}
 use Prim.Native.Nat.{ℕ}
@@ -30,17 +29,17 @@ format-track-requires : tie.Need-format-track-requires
 unfolding partnerOf
 format-track-requires c κs =
     let a = c .before .before .before .before .before .before in
-    (a .pre .0, a .pre .1, a .pre .2, a .pre .3, a .pre .4, omega arith, search needs)
+    (a .pre, omega arith, search needs)
 
 same-length : tie.Need-same-length
 same-length c = search needs
 
 returns : tie.Need-returns
-returns c buffer =
+returns c =
     let m = c .before .before .before .before .before .before in
     let a = m .before .before .before .args in
-    c .before .before .format-track .ensures buffer
-    ∙ ap (λ (fill : List ℕ). formatTrack (a .b) (a .p) Bad fill (recordOf buffer (a .drives)) (a .image .now))
+    c .before .before .format-track .ensures
+    ∙ ap (λ (fill : List ℕ). formatTrack (a .b) (a .p) Bad fill (a .entry) (a .image .now))
     (fill-lent _ _ ∙ plain-of _ _ _ _ (m .before .medium-of .ensures) (m .plain-fill .ensures .0))
 
 pub format-bad-spec : {M : Type 1} → statement M

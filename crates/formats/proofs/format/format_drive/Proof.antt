@@ -19,13 +19,10 @@ returns : tie.Need-returns
 returns c =
     let tested = c .before in
     let asked = tested .before in
-    drive-fails _ _ _ _ _ _ (asked .before .track-of .ensures) _ (asked .splits-pair .ensures) (tested .if1 .taken) (c .failed .ensures _)
+    drive-fails _ _ _ _ _ _ (asked .before .track-of .ensures) _ _ (asked .splits-pair .ensures) (tested .if1 .taken) (c .failed .ensures)
 
 fill-of-requires : tie.Need-fill-of-requires
 fill-of-requires c κs = search needs
-
-drive-at-requires : tie.Need-drive-at-requires
-drive-at-requires c κs = search needs
 
 sub-make-drive : tie.Need-sub-make-drive
 sub-make-drive c = search needs
@@ -39,8 +36,8 @@ part-make-drive-end c = search needs
 make-drive-requires : tie.Need-make-drive-requires
 make-drive-requires c κs = search needs
 
-settle-requires : tie.Need-settle-requires
-settle-requires c κs = search needs
+end-pending-requires : tie.Need-end-pending-requires
+end-pending-requires c κs = search needs
 
 good-requires : tie.Need-good-requires
 good-requires c κs = search needs
@@ -50,8 +47,12 @@ same-length-2 c = search needs
 
 returns-2 : tie.Need-returns-2
 returns-2 c =
-    drive-well _ _ _ _ _ _ (c .before .before .before .before .before .before .before .before .before .before .before .before .before .track-of .ensures) _ (c .before .before .before .before .before .before .before .before .before .before .before .before .splits-pair .ensures) _ _ _ _ (c .before .before .before .before .before .before .before .before .before .before .before .if1 .left)
-    (c .before .before .before .before .before .before .before .before .before .before .fill-of .ensures .0) (c .before .before .before .before .before .before .before .before .before .drive-at .ensures) (c .before .before .before .before .make-drive .ensures) (c .before .settle .ensures) (c .good2 .ensures _)
+    let ended = c .before in
+    let filled = ended .before .before .before .before .before .before .before .before in
+    let tested = filled .before in
+    let asked = tested .before in
+    drive-well _ _ _ _ _ _ (asked .before .track-of .ensures) _ _ (asked .splits-pair .ensures) _ _ _ (tested .if1 .left)
+    (filled .fill-of .ensures .0) (ended .before .before .before .make-drive .ensures) (ended .end-pending .ensures) (c .good2 .ensures)
 
 pub format-drive-spec : {M : Type 1} → statement M
 format-drive-spec =
@@ -63,12 +64,11 @@ format-drive-spec =
     same-length
     returns
     fill-of-requires
-    drive-at-requires
     sub-make-drive
     part-make-drive-start
     part-make-drive-end
     make-drive-requires
-    settle-requires
+    end-pending-requires
     good-requires
     same-length-2
     returns-2)

@@ -1,7 +1,6 @@
 use Rattle.track.specs.declared.state.State.the-variants.{Sound}
 use Rattle.track.specs.State.{partnerOf}
 use Rattle.model.specs.Commands.{formatTrack}
-use Rattle.endings.specs.Leaves.{recordOf}
 use Rattle.formats.proofs.Makings.{fill-lent}
 use native.Mathlib.Omega.{arith}
 use Prim.Native.Nat.{ℕ}
@@ -27,7 +26,7 @@ format-track-requires : tie.Need-format-track-requires
 unfolding partnerOf
 format-track-requires c κs =
     let a = c .before .before .before .before .before .before in
-    (a .pre .0, a .pre .1, a .pre .2, a .pre .3, a .pre .4, omega arith, search needs)
+    (a .pre .0, omega arith, search needs)
 
 same-length : tie.Need-same-length
 same-length c = search needs
@@ -35,9 +34,8 @@ same-length c = search needs
 returns : tie.Need-returns
 returns c =
     let a = c .before .before .before .before .before .before .before .before .before .args in
-    let k = recordOf (a .buffer .now) (a .drives) in
-    c .before .before .format-track .ensures _
-    ∙ ap (λ (fill : List ℕ). formatTrack (a .b) (a .p) Sound fill k (a .image .now)) (fill-lent (a .p .size) _ ∙ c .before .before .before .before .before .before .fill-of .ensures .0)
+    c .before .before .format-track .ensures
+    ∙ ap (λ (fill : List ℕ). formatTrack (a .b) (a .p) Sound fill (a .entry) (a .image .now)) (fill-lent (a .p .size) _ ∙ c .before .before .before .before .before .before .fill-of .ensures .0)
 
 pub format-sound-spec : {M : Type 1} → statement M
 format-sound-spec =

@@ -4,8 +4,6 @@ use native.Mathlib.Omega.{arith}
 use mathlib.Core.Path.{sym}
 use Rattle.hex.proofs.digit.digit_for.Statement.{statement}
 use Rattle.hex.proofs.digit.digit_for.Tie as tie
-use Rattle.hex.proofs.digit.digit_for.Reads as reads
-use Rattle.hex.proofs.digit.digit_for.Lts as lts
 
 -- src/digit.rt:37:16
 add-result : tie.Need-add-result

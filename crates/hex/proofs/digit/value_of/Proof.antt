@@ -4,8 +4,6 @@ use native.Mathlib.Omega.{arith}
 use mathlib.Core.Path.{sym}
 use Rattle.hex.proofs.digit.value_of.Statement.{statement}
 use Rattle.hex.proofs.digit.value_of.Tie as tie
-use Rattle.hex.proofs.digit.value_of.Reads as reads
-use Rattle.hex.proofs.digit.value_of.Lts as lts
 
 -- src/digit.rt:11:9
 returns : tie.Need-returns

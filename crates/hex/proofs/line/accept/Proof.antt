@@ -3,11 +3,6 @@ use Rattle.hex.proofs.Characters.{accepted-bad, accept-none, accept-sma
 use mathlib.Core.Path.{sym}
 use Rattle.hex.proofs.line.accept.Statement.{statement}
 use Rattle.hex.proofs.line.accept.Tie as tie
-use Rattle.hex.proofs.line.accept.Reads as reads
-use Rattle.hex.proofs.line.accept.Lts as lts
-use Rattle.hex.proofs.digit.value_of.Reads as value-of-reads
-use Rattle.hex.proofs.line.spoilt.Reads as spoilt-reads
-use Rattle.hex.proofs.line.take_value.Reads as take-value-reads
 
 -- src/line.rt:71:9
 returns : tie.Need-returns

@@ -2,8 +2,6 @@ use Rattle.hex.specs.Line.{spoiltLine}
 use mathlib.Core.Path.{refl}
 use Rattle.hex.proofs.line.spoilt.Statement.{statement}
 use Rattle.hex.proofs.line.spoilt.Tie as tie
-use Rattle.hex.proofs.line.spoilt.Reads as reads
-use Rattle.hex.proofs.line.spoilt.Lts as lts
 
 -- src/line.rt:31:1
 returns : tie.Need-returns

@@ -4,9 +4,6 @@ use borrow.Author.Tests.{not-true, not-false}
 use mathlib.Core.Path.{sym}
 use Rattle.hex.proofs.line.take_value.Statement.{statement}
 use Rattle.hex.proofs.line.take_value.Tie as tie
-use Rattle.hex.proofs.line.take_value.Reads as reads
-use Rattle.hex.proofs.line.take_value.Lts as lts
-use Rattle.hex.proofs.line.spoilt.Reads as spoilt-reads
 
 -- src/line.rt:46:9
 returns : tie.Need-returns

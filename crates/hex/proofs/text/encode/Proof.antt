@@ -5,9 +5,6 @@ use lib.ListN.{length, length-set}
 use Rattle.hex.proofs.Texts.{Written, written-none, written-more, written-all}
 use Rattle.hex.proofs.text.encode.Statement.{statement}
 use Rattle.hex.proofs.text.encode.Tie as tie
-use Rattle.hex.proofs.text.encode.Reads as reads
-use Rattle.hex.proofs.text.encode.Lts as lts
-use Rattle.hex.proofs.digit.digit_for.Reads as digit-for-reads
 
 abbrev Inv-loop : tie.InvT-loop
 Inv-loop text₀ at bytes i₀ to₀ text i to = Written text₀ at bytes text i to

@@ -16,14 +16,14 @@ count-of-requires c κs = search needs
 read-sectors-requires : tie.Need-read-sectors-requires
 read-sectors-requires c κs =
     let a = c .before .before .before .before .before in
-    (a .pre .0, omega (arith, a .pre .2, c .before .count-of .ensures), room-all _ _ _ _ (c .before .count-of .ensures) (a .pre .3))
+    (a .pre .0 .fits, omega (arith, a .pre .0 .inside, c .before .count-of .ensures), room-all _ _ _ _ (c .before .count-of .ensures) (a .pre .0 .enough))
 
 -- the sectors done are no more than were asked for, and those are at most 256
 most : (c : tie.After-slice-known3) → c .before .before .read-sectors .result .sectors ≤ c .before .before .before .before .count-of .result
 most c =
     let k = c .before .before .before .before in
     let a = k .before .before .before .before in
-    read-most (a .args .b) (a .args .p) _ _ _ _ _ (a .pre .0) (a .pre .2) (k .count-of .ensures) (c .before .before .read-sectors .ensures)
+    read-most (a .args .b) (a .args .p) _ _ _ _ _ (a .pre .0 .fits) (a .pre .0 .inside) (k .count-of .ensures) (c .before .before .read-sectors .ensures)
 
 extra : (a : tie.Start) → a .args .b .extra < 256
 extra a = omega arith
@@ -36,7 +36,7 @@ few c =
 
 bytes : (c : tie.After-slice-known3)
     → c .before .before .read-sectors .result .sectors * c .before .before .before .before .before .before .before .before .args .p .size ≤ 131072
-bytes c = bytes-most _ _ (few c) (c .before .before .before .before .before .before .before .before .pre .0 .within .size-most)
+bytes c = bytes-most _ _ (few c) (c .before .before .before .before .before .before .before .before .pre .0 .fits .within .size-most)
 
 mul-bytes : tie.Need-mul-bytes
 mul-bytes c = omega (arith, bytes c)
@@ -46,8 +46,8 @@ keep-last-requires c κs =
     let k = c .before .before in
     let a = k .before .before .before .before .before .before .before .before in
     let long : length (k .before .before .read-sectors .last .1 .1 .1 .1 .0) ≡ length (a .args .area .now) = search needs in (
-      omega (arith, a .pre .0 .within .size-most, a .pre .4),
-      room-done _ _ _ _ _ (most k) (k .before .before .before .before .count-of .ensures) (rw long (a .pre .3)),
+      omega (arith, a .pre .0 .fits .within .size-most, a .pre .1),
+      room-done _ _ _ _ _ (most k) (k .before .before .before .before .count-of .ensures) (rw long (a .pre .0 .enough)),
       few k,
     )
 
@@ -58,11 +58,11 @@ finish-requires : tie.Need-finish-requires
 finish-requires c κs =
     let k = c .before .before .before .before .before in
     let a = k .before .before .before .before .before .before .before .before in (
-      a .pre .1,
+      a .pre .0 .block .drive,
       few k,
-      read-code (a .args .b) (a .args .p) _ _ _ _ _ (a .pre .0) (a .pre .2)
+      read-code (a .args .b) (a .args .p) _ _ _ _ _ (a .pre .0 .fits) (a .pre .0 .inside)
           (k .before .before .before .before .count-of .ensures) (k .before .before .read-sectors .ensures),
-      omega (arith, a .pre .2, sectors-most (a .args .p) (a .pre .0 .within)),
+      omega (arith, a .pre .0 .inside, sectors-most (a .args .p) (a .pre .0 .fits .within)),
     )
 
 same-length : tie.Need-same-length
@@ -75,7 +75,7 @@ returns : tie.Need-returns
 returns c =
     let k = c .before .before .before .before .before .before in
     let a = k .before .before .before .before .before .before .before .before in
-    read-leaves (a .args .b) (a .args .p) _ _ _ _ _ (a .pre .0) (a .pre .2)
+    read-leaves (a .args .b) (a .args .p) _ _ _ _ _ (a .pre .0 .fits) (a .pre .0 .inside)
     (k .before .before .before .before .count-of .ensures) (k .before .before .read-sectors .ensures)
     _ _ _ _ (c .before .before .before .keep-last .ensures) (c .finish .ensures)
 

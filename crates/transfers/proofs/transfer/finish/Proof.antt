@@ -1,5 +1,5 @@
 use Rattle.base.proofs.Decide.{decide}
-use Rattle.transfers.specs.Finish.{finishOf}
+use Rattle.model.specs.Commands.{transferEnding}
 use borrow.Author.Needs.{needs}
 use Rattle.transfers.proofs.transfer.finish.Statement.{statement}
 use Rattle.transfers.proofs.transfer.finish.Tie as tie
@@ -11,8 +11,8 @@ good-requires : tie.Need-good-requires
 good-requires c κs = search needs
 
 returns : tie.Need-returns
-unfolding finishOf
-returns c buffer = search (c .good2 .ensures buffer, needs, decide)
+unfolding transferEnding
+returns c = search (c .good2 .ensures, needs, decide)
 
 cast-t10 : tie.Need-cast-t10
 cast-t10 c = search needs
@@ -27,8 +27,8 @@ failed-requires : tie.Need-failed-requires
 failed-requires c κs = search needs
 
 returns-2 : tie.Need-returns-2
-unfolding finishOf
-returns-2 c buffer = search (c .failed .ensures buffer, needs, decide)
+unfolding transferEnding
+returns-2 c = search (c .failed .ensures, needs, decide)
 
 pub finish-spec : {M : Type 1} → statement M
 finish-spec =

@@ -1,0 +1,9 @@
+-- Parameters, where there are any, are within their ranges.
+use mathlib.Core.Path.{_≡_}
+use Rattle.geometry.specs.declared.params.Params.{Params}
+use Rattle.geometry.specs.declared.config.Setting.{Setting}
+use Rattle.geometry.specs.declared.config.Setting.the-variants.{Valid}
+use Rattle.geometry.specs.Params.{Within}
+
+abbrev pub Legal : Setting → Type 0
+Legal setting = (p : Params) → setting ≡ Valid p → Within p

@@ -1,0 +1,309 @@
+-- What each command can leave. Numbers 1, 2 and 3 and no others refuse, and a refusal changes nothing at all.
+use Prim.Native.Nat.{ℕ, zero, suc, _≤_}
+use mathlib.Core.Path.{_≡_, refl}
+use mathlib.Core.Bool.{Bool, true, false, not}
+use mathlib.Core.List.{List, [], _∷_}
+use native.Mathlib.Omega.{arith}
+use lib.ListN.{length, set, take, drop}
+use lib.Seq.{set-getD}
+use lib.Dec.{eqb}
+use Rattle.base.specs.Pick.{pick}
+use Rattle.base.specs.Part.{part, splice}
+use Rattle.base.proofs.Decide.{pick-both}
+use Rattle.geometry.specs.declared.params.Lba.{Lba}
+use Rattle.geometry.specs.declared.params.Params.{Params}
+use Rattle.geometry.specs.declared.config.Setting.{Setting}
+use Rattle.geometry.specs.declared.config.Setting.the-variants.{Valid, Invalid}
+use Rattle.geometry.specs.Medium.{mediumOf}
+use Rattle.geometry.specs.Config.{labelHolds}
+use Rattle.track.specs.Find.{Sector, Slot, Fault}
+use Rattle.sectors.specs.Transfer.{Transfer, begun, ended, readSlot, writeSlot, onward, found, reading, writing}
+use Rattle.model.specs.declared.block.Block.{Block}
+use Rattle.model.specs.declared.table.Command.{Command}
+use Rattle.model.specs.declared.table.Command.the-variants.{Free, OnDisk, Unknown}
+use Rattle.model.specs.declared.table.FreeCommand.{FreeCommand}
+use Rattle.model.specs.declared.table.FreeCommand.the-variants.{RequestSense, WriteBuffer, ReadBuffer, Initialize}
+use Rattle.model.specs.declared.table.DiskCommand.{DiskCommand}
+use Rattle.model.specs.declared.table.DiskCommand.the-variants.{ArmWork, TrackWork, SectorWork}
+use Rattle.model.specs.declared.table.ArmCommand.{ArmCommand}
+use Rattle.model.specs.declared.table.ArmCommand.the-variants.{TestReady, Recalibrate, Seek}
+use Rattle.model.specs.declared.table.TrackCommand.{TrackCommand}
+use Rattle.model.specs.declared.table.TrackCommand.the-variants.{FormatDrive, CheckTrack, FormatTrack, FormatBadTrack, AssignAlternate}
+use Rattle.model.specs.declared.table.SectorCommand.{SectorCommand}
+use Rattle.model.specs.declared.table.SectorCommand.the-variants.{Read, Write}
+use Rattle.model.specs.declared.record.Drive.{Drive}
+use Rattle.model.specs.declared.record.Controller.{Controller}
+use Rattle.model.specs.declared.record.Ending.{Ending}
+use Rattle.model.specs.declared.verdict.View.{View}
+use Rattle.model.specs.declared.verdict.Verdict.{Verdict}
+use Rattle.model.specs.declared.verdict.Verdict.the-variants.{Refused, Faulty, Passed}
+use Rattle.model.specs.Block.{blockOf, countOf}
+use Rattle.model.specs.Table.{rowFor}
+use Rattle.model.specs.Checks.{Test, on, refuses, judged, inOrder, judge}
+use Rattle.model.specs.Record.{driveAt, blankDrive, sensed, refused, failed, good, unless, Effect, effect, Made, made}
+use Rattle.model.specs.Commands.{pendingEnded, formatDrive, checkTests, checkTrack, aloneTests, formatTrack, transferEnding, transferred, read, write}
+use Rattle.model.specs.Commands.{assignTests, assignAlternate, initialized, initializedBy, initialize, doFree, doArm, doTrack, doSectors, asEffect, doDisk, carryOut}
+use Rattle.model.specs.Engine.{obey, Result, imageOf, left, onDrive, execute}
+
+-- ---- What becomes of the entry of the drive: apart from the sense, only Initialize and Format Drive change it
+pub data Makes (b : Block) (entry : Drive) (image : List ℕ) : Command → Drive → Type 0 where
+  kept : Makes b entry image (Free RequestSense) entry
+  sense : {command : Command} (bytes : List ℕ) → Makes b entry image command (sensed bytes entry)
+  initial : (config bytes : List ℕ)
+      → Makes b entry image (Free Initialize) (sensed bytes (initialized config (not (labelHolds (mediumOf (b .drive)) image config)) entry))
+  formatted : (bytes : List ℕ) → Makes b entry image (OnDisk (TrackWork FormatDrive)) (sensed bytes (pendingEnded entry))
+
+-- of the buffer: Read and Write change its front, Write Buffer all of it
+pub data Fills (given buffer : List ℕ) : Command → List ℕ → Type 0 where
+  as-was : {command : Command} → Fills given buffer command buffer
+  front : {command : SectorCommand} (last : List ℕ) → Fills given buffer (OnDisk (SectorWork command)) (splice 0 last buffer)
+  taken : Fills given buffer (Free WriteBuffer) (part 0 512 given)
+
+-- the bytes handed over
+pub data Hands (entry : Drive) (buffer : List ℕ) : Command → List ℕ → Type 0 where
+  nothing : {command : Command} → Hands entry buffer command []
+  own-sense : Hands entry buffer (Free RequestSense) (entry .sense)
+  own-buffer : Hands entry buffer (Free ReadBuffer) buffer
+  read-out : (bytes : List ℕ) → Hands entry buffer (OnDisk (SectorWork Read)) bytes
+
+-- and of the image of the drive: only formats, Assign Alternate and Write change it
+pub data Writes (image : List ℕ) : Command → List ℕ → Type 0 where
+  untouched : {command : Command} → Writes image command image
+  drive-format : (after : List ℕ) → Writes image (OnDisk (TrackWork FormatDrive)) after
+  track-format : (after : List ℕ) → Writes image (OnDisk (TrackWork FormatTrack)) after
+  bad-format : (after : List ℕ) → Writes image (OnDisk (TrackWork FormatBadTrack)) after
+  alternate : (after : List ℕ) → Writes image (OnDisk (TrackWork AssignAlternate)) after
+  stored : (after : List ℕ) → Writes image (OnDisk (SectorWork Write)) after
+
+-- A command that ends with number 0: all four, and as many bytes counted as handed over.
+pub record LeavesBy (b : Block) (given : List ℕ) (entry : Drive) (buffer image : List ℕ) (command : Command) (e : Effect) : Type 0 where
+  pub number : e .ending .answer .number ≡ 0
+  pub bytes : e .ending .answer .bytes ≡ length (e .handed)
+  pub makes : Makes b entry image command (e .ending .entry)
+  pub fills : Fills given buffer command (e .buffer)
+  pub hands : Hands entry buffer command (e .handed)
+  pub writes : Writes image command (e .image)
+
+-- ---- Verdicts: the order of checks refuses with 2 or 3 only, own checks never
+data Verdicts : (refusals : Bool) → Verdict → Type 0 where
+  second : Verdicts true (Refused 2)
+  third : Verdicts true (Refused 3)
+  fault : {refusals : Bool} (code : ℕ) (at : Lba) → Verdicts refusals (Faulty code at)
+  pass : {refusals : Bool} → Verdicts refusals Passed
+
+picked : {refusals : Bool} (b : Bool) {x y : Verdict} → Verdicts refusals x → Verdicts refusals y → Verdicts refusals (pick b x y)
+unfolding pick
+picked true hx hy = hx
+picked false hx hy = hy
+
+-- tests that can give such a verdict
+data Tests : (refusals : Bool) → List Test → Type 0 where
+  done : {refusals : Bool} → Tests refusals []
+  faults : {refusals : Bool} {hit : Bool} {code : ℕ} {at : Lba} {tests : List Test} → Tests refusals tests → Tests refusals (on hit code at ∷ tests)
+  seconds : {hit : Bool} {tests : List Test} → Tests true tests → Tests true (refuses hit 2 ∷ tests)
+  thirds : {hit : Bool} {tests : List Test} → Tests true tests → Tests true (refuses hit 3 ∷ tests)
+
+judged-by : {refusals : Bool} {tests : List Test} → Tests refusals tests → Verdicts refusals (judged tests)
+unfolding judged
+judged-by done = pass
+judged-by (faults rest) = picked _ (fault _ _) (judged-by rest)
+judged-by (seconds rest) = picked _ second (judged-by rest)
+judged-by (thirds rest) = picked _ third (judged-by rest)
+
+judge-by : (b : Block) (v : View) (given area : ℕ) → Verdicts true (judge b v given area)
+unfolding judge inOrder
+judge-by b v given area = judged-by (faults (faults (faults (faults (faults (faults (faults (seconds (thirds done)))))))))
+
+-- own checks: what holds of a command that has failed or passed them holds
+own : {A : Type 0} (P : A → Type 0) (drive : ℕ) (entry : Drive) (keep : Ending → A) (after : A) {v : Verdict} → Verdicts false v
+    → ((code : ℕ) (at : Lba) → P (keep (failed drive drive code at 0 0 entry))) → P after → P (unless v drive entry keep after)
+unfolding unless
+own P drive entry keep after (fault code at) failing passing = failing code at
+own P drive entry keep after pass failing passing = passing
+
+-- ---- A Read changes no image, a Write hands nothing over
+pub read-image : (n a : ℕ) (p : Params) (x : Transfer) → reading p n a x .image ≡ x .image
+unfolding reading onward ended readSlot
+read-image zero a p x = refl
+read-image (suc n) a p x = by (found p a (x .image)) (λ y. read-image n (suc a) p y)
+  where
+    by : (s : Sector) → ((y : Transfer) → reading p n (suc a) y .image ≡ y .image)
+        → onward x (λ t k. reading p n (suc a) (readSlot p x t k)) s .image ≡ x .image
+    by (Fault code) rest = refl
+    by (Slot t k) rest = rest (readSlot p x t k)
+
+write-handed : (n a : ℕ) (p : Params) (given : List ℕ) (x : Transfer) → writing p n a given x .handed ≡ x .handed
+unfolding writing onward ended writeSlot
+write-handed zero a p given x = refl
+write-handed (suc n) a p given x = by (found p a (x .image)) (λ y. write-handed n (suc a) p (drop (p .size) given) y)
+  where
+    by : (s : Sector) → ((y : Transfer) → writing p n (suc a) (drop (p .size) given) y .handed ≡ y .handed)
+        → onward x (λ t k. writing p n (suc a) (drop (p .size) given) (writeSlot p (take (p .size) given) x t k)) s .handed ≡ x .handed
+    by (Fault code) rest = refl
+    by (Slot t k) rest = rest (writeSlot p (take (p .size) given) x t k)
+
+-- ---- Each command
+module _ (b : Block) (given : List ℕ) (entry : Drive) (buffer image : List ℕ) where
+  abbrev LeavesAs : Command → Effect → Type 0
+  LeavesAs = LeavesBy b given entry buffer image
+
+  -- good or failed, and nothing done but to the sense
+  well : (command : Command) → LeavesAs command (effect (good (b .drive) 0 0 entry) buffer [] image)
+  unfolding good
+  well command = record { number = refl; bytes = refl; makes = sense _; fills = as-was; hands = nothing; writes = untouched }
+
+  faulty : (command : Command) (code : ℕ) (at : Lba) → LeavesAs command (effect (failed (b .drive) (b .drive) code at 0 0 entry) buffer [] image)
+  unfolding failed
+  faulty command code at = record { number = refl; bytes = refl; makes = sense _; fills = as-was; hands = nothing; writes = untouched }
+
+  -- ---- Free
+  configured : (s : Setting) (config : List ℕ) → LeavesAs (Free Initialize) (effect (initializedBy s b config entry image) buffer [] image)
+  unfolding initializedBy good
+  configured Invalid config = faulty (Free Initialize) 0x22 (b .address)
+  configured (Valid p) config =
+      record { number = refl; bytes = refl; makes = initial config _; fills = as-was; hands = nothing; writes = untouched }
+
+  free-ends : (command : FreeCommand) → LeavesAs (Free command) (doFree b given entry buffer image command)
+  unfolding doFree initialize good
+  free-ends RequestSense = record { number = refl; bytes = refl; makes = kept; fills = as-was; hands = own-sense; writes = untouched }
+  free-ends WriteBuffer = record { number = refl; bytes = refl; makes = sense _; fills = taken; hands = nothing; writes = untouched }
+  free-ends ReadBuffer = record { number = refl; bytes = refl; makes = sense _; fills = as-was; hands = own-buffer; writes = untouched }
+  free-ends Initialize = configured _ _
+
+  -- ---- On the disk
+  arm-ends : (command : ArmCommand) → LeavesAs (OnDisk (ArmWork command)) (effect (doArm b entry command) buffer [] image)
+  unfolding doArm
+  arm-ends TestReady = well _
+  arm-ends Recalibrate = well _
+  arm-ends Seek = well _
+
+  module _ (p : Params) where
+    -- by own checks, of a command that may change the image
+    by-own : (command : TrackCommand) (after : Made) {v : Verdict} → Verdicts false v → LeavesAs (OnDisk (TrackWork command)) (asEffect buffer after)
+        → LeavesAs (OnDisk (TrackWork command)) (asEffect buffer (unless v (b .drive) entry (λ e. made e image) after))
+    unfolding asEffect
+    by-own command after own-checks =
+        own (λ (x : Made). LeavesAs (OnDisk (TrackWork command)) (asEffect buffer x)) (b .drive) entry (λ e. made e image) after own-checks
+        (faulty (OnDisk (TrackWork command)))
+
+    track-ends : (command : TrackCommand) → LeavesAs (OnDisk (TrackWork command)) (asEffect buffer (doTrack b p buffer given entry image command))
+    unfolding doTrack asEffect formatDrive checkTrack checkTests formatTrack aloneTests assignAlternate assignTests good
+    track-ends FormatDrive =
+        by-own FormatDrive _ (judged-by (faults done))
+        (record { number = refl; bytes = refl; makes = formatted _; fills = as-was; hands = nothing; writes = drive-format _ })
+    track-ends CheckTrack =
+        own (λ (x : Ending). LeavesAs (OnDisk (TrackWork CheckTrack)) (effect x buffer [] image)) (b .drive) entry (λ e. e) _ (judged-by (faults done))
+        (faulty (OnDisk (TrackWork CheckTrack))) (well (OnDisk (TrackWork CheckTrack)))
+    track-ends FormatTrack =
+        by-own FormatTrack _ (judged-by (faults (faults done)))
+        (record { number = refl; bytes = refl; makes = sense _; fills = as-was; hands = nothing; writes = track-format _ })
+    track-ends FormatBadTrack =
+        by-own FormatBadTrack _ (judged-by (faults (faults done)))
+        (record { number = refl; bytes = refl; makes = sense _; fills = as-was; hands = nothing; writes = bad-format _ })
+    track-ends AssignAlternate =
+        by-own AssignAlternate _ (judged-by (faults (faults (faults (faults (faults (faults (faults done))))))))
+        (record { number = refl; bytes = refl; makes = sense _; fills = as-was; hands = nothing; writes = alternate _ })
+
+    -- a transfer's end, whatever its code
+    Finishes : (bytes : ℕ) → (command : Command) → Ending → Type 0
+    Finishes bytes command x = (x .answer .number ≡ 0) × (x .answer .bytes ≡ bytes) × Makes b entry image command (x .entry)
+
+    finishes : (sectors code bytes : ℕ) (command : Command) → Finishes bytes command (transferEnding b sectors code bytes entry)
+    unfolding Finishes transferEnding good failed
+    finishes sectors code bytes command = pick-both (Finishes bytes command) _ _ _ (refl, refl, sense _) (refl, refl, sense _)
+
+    sectors-end : (command : SectorCommand) → LeavesAs (OnDisk (SectorWork command)) (doSectors b p given entry buffer image command)
+    unfolding doSectors read write transferred begun Finishes
+    sectors-end Read =
+        let x = reading p (countOf b) (b .address .0) (begun image) in
+        let ends = finishes (x .done) (x .code) (length (x .handed)) (OnDisk (SectorWork Read)) in
+        record {
+          number = ends .0;
+          bytes = ends .1;
+          makes = ends .2;
+          fills = front _;
+          hands = read-out _;
+          writes = rw (read-image (countOf b) (b .address .0) p (begun image)) untouched;
+        }
+    sectors-end Write =
+        let x = writing p (countOf b) (b .address .0) given (begun image) in
+        let ends = finishes (x .done) (x .code) (length (x .handed)) (OnDisk (SectorWork Write)) in
+        record {
+          number = ends .0;
+          bytes = ends .1;
+          makes = ends .2;
+          fills = front _;
+          hands = rw (write-handed (countOf b) (b .address .0) p given (begun image)) nothing;
+          writes = stored _;
+        }
+
+    disk-ends : (command : DiskCommand) → LeavesAs (OnDisk command) (doDisk b p given entry buffer image command)
+    unfolding doDisk
+    disk-ends (ArmWork command) = arm-ends command
+    disk-ends (TrackWork command) = track-ends command
+    disk-ends (SectorWork command) = sectors-end command
+
+  carried-ends : (s : Setting) (command : Command) → LeavesAs command (carryOut b s given entry buffer image command)
+  unfolding carryOut
+  carried-ends s (Free command) = free-ends command
+  carried-ends Invalid (OnDisk command) = faulty (OnDisk command) 0x0A (b .address)
+  carried-ends (Valid p) (OnDisk command) = disk-ends p command
+  carried-ends s Unknown = faulty Unknown 0x20 (b .address)
+
+-- ---- So a command is refused with 2 or 3, leaves entry, buffer and image and hands nothing over, or it ends with number 0
+pub data Obeyed (b : Block) (given : List ℕ) (entry : Drive) (buffer image : List ℕ) (command : Command) (e : Effect) : Type 0 where
+  answered : LeavesBy b given entry buffer image command e → Obeyed b given entry buffer image command e
+  denied : (number : ℕ) → 2 ≤ number → number ≤ 3 → e ≡ effect (refused number entry) buffer [] image
+      → Obeyed b given entry buffer image command e
+
+module _ (b : Block) (given : List ℕ) (entry : Drive) (buffer image : List ℕ) (command : Command) where
+  verdict-obeyed : {v : Verdict} (after : Effect) → Verdicts true v → LeavesBy b given entry buffer image command after
+      → Obeyed b given entry buffer image command (unless v (b .drive) entry (λ e. effect e buffer [] image) after)
+  unfolding unless
+  verdict-obeyed after second h = denied 2 (omega arith) (omega arith) refl
+  verdict-obeyed after third h = denied 3 (omega arith) (omega arith) refl
+  verdict-obeyed after (fault code at) h = answered (faulty b given entry buffer image command code at)
+  verdict-obeyed after pass h = answered h
+
+pub obeyed : (b : Block) (given : List ℕ) (area : ℕ) (entry : Drive) (buffer image : List ℕ)
+    → Obeyed b given entry buffer image (rowFor (b .opcode) .command) (obey b given area entry buffer image)
+unfolding obey
+obeyed b given area entry buffer image = verdict-obeyed b given entry buffer image _ _ (judge-by b _ _ _) (carried-ends b given entry buffer image _ _)
+
+-- ---- All that a call leaves
+-- the images, where a command left the one that it was lent, and the entries likewise
+pub images-kept : (drive : ℕ) (images : List (List ℕ)) → set images drive (imageOf drive images) ≡ images
+unfolding imageOf
+images-kept drive images = set-getD images drive []
+
+pub drives-kept : (drive : ℕ) (c : Controller) → set (c .drives) drive (driveAt c drive) ≡ c .drives
+unfolding driveAt
+drives-kept drive c = set-getD (c .drives) drive blankDrive
+
+-- status, message and counts are 0, and controller, area and images as they were
+abbrev pub unmoved : Controller → (area : List ℕ) → (images : List (List ℕ)) → (number : ℕ) → Result
+unmoved c area images number = record {
+  outcome = record { controller = c; answer = record { number = number; status = 0; message = 0; sectors = 0; bytes = 0 } };
+  area = area;
+  images = images;
+}
+
+pub data Answered (c : Controller) (area : List ℕ) (images : List (List ℕ)) (r : Result) : Type 0 where
+  accepted : r .outcome .answer .number ≡ 0 → Answered c area images r
+  unchanged : (number : ℕ) → 1 ≤ number → number ≤ 3 → r ≡ unmoved c area images number → Answered c area images r
+
+module _ (c : Controller) (block given area : List ℕ) (images : List (List ℕ)) where
+  left-answered : (b : Block) (command : Command) (e : Effect) → Obeyed b given (driveAt c (b .drive)) (c .buffer) (imageOf (b .drive) images) command e
+      → Answered c area images (left (b .drive) e c area images)
+  unfolding left refused splice
+  left-answered b command e (answered ends) = accepted (ends .number)
+  left-answered b command e (denied number least most is) =
+      unchanged number (omega arith) most (rw (is, images-kept (b .drive) images, drives-kept (b .drive) c))
+
+  pub all-answered : Answered c area images (execute c block given area images)
+  unfolding execute onDrive
+  all-answered =
+      let b = blockOf block in
+      pick-both (Answered c area images) (eqb (length block) 6) _ _
+      (left-answered b _ _ (obeyed b given (length area) (driveAt c (b .drive)) (c .buffer) (imageOf (b .drive) images)))
+      (unchanged 1 (omega arith) (omega arith) refl)
