@@ -1,11 +1,11 @@
 -- Assign Alternate: its tests one by one, what they say of the tracks and of the codes, and how it ends.
 use mathlib.Core.Path.{_≡_, refl, sym, _∙_}
-use mathlib.Core.Bool.{Bool, _||_}
+use mathlib.Core.Bool.{Bool, true, false, _||_}
 use mathlib.Core.List.{List, [], _∷_}
 use Prim.Native.Nat.{ℕ, _-_, _≤_, _<_}
 use native.Mathlib.Omega.{arith}
 use lib.ListN.{take}
-use lib.Dec.{eqb}
+use lib.Dec.{eqb, ltb}
 use borrow.Author.Tests.{lt-ltb, le-ltb, ltb-false}
 use Rattle.base.specs.Part.{part}
 use Rattle.base.specs.Byte.{byte}
@@ -53,30 +53,30 @@ module _ (p : Params) (first : ℕ) (a alternate : Lba) (stateA stateB : State) 
   first-past h = sym (judged-hit _ _ _ (lt-ltb _ _ h))
 
   module _ (h : first ≤ 0x1F) (last : Lba) (el : last ≡ lastAddress p) where
-    pub alternate-past : last .0 < alternate .0 → Faulty 0x21 alternate ≡ judged (assignTests p first a alternate stateA stateB)
+    pub alternate-past : ltb (last .0) (alternate .0) ≡ true → Faulty 0x21 alternate ≡ judged (assignTests p first a alternate stateA stateB)
     unfolding assignTests
-    alternate-past k = sym (judged-on _ _ _ (le-ltb _ _ h) ∙ judged-hit _ _ _ (lt-ltb _ _ (rw el at k)))
+    alternate-past k = sym (judged-on _ _ _ (le-ltb _ _ h) ∙ judged-hit _ _ _ (rw el at k))
 
-    pair-rest : alternate .0 ≤ last .0
+    pair-rest : ltb (last .0) (alternate .0) ≡ false
         → judged
         (on (isMoved stateA) 0x1D a ∷ on (isTaken stateA) 0x1C a ∷ on (eqb (trackOf p alternate .0) (trackOf p a .0)) 0x22 a
         ∷ on (isTaken stateB) 0x1D alternate ∷ on (isMoved stateB || isBad stateB) 0x1F alternate ∷ [])
         ≡ judged (assignTests p first a alternate stateA stateB)
     unfolding assignTests
-    pair-rest k = sym (judged-on _ _ _ (le-ltb _ _ h) ∙ judged-on _ _ _ (le-ltb _ _ (rw el at k)))
+    pair-rest k = sym (judged-on _ _ _ (le-ltb _ _ h) ∙ judged-on _ _ _ (rw el at k))
 
 -- the tests of the pair, as calls make them
 module _ (p : Params) (first : ℕ) (a alternate : Lba) (image : List ℕ) (h : first ≤ 0x1F)
-    (last : Lba) (el : last ≡ lastAddress p) (k : alternate .0 ≤ last .0) (from to : Track) (ef : from ≡ trackOf p a) (et : to ≡ trackOf p alternate)
+    (last : Lba) (el : last ≡ lastAddress p) (k : ltb (last .0) (alternate .0) ≡ false) (from to : Track) (ef : from ≡ trackOf p a) (et : to ≡ trackOf p alternate)
     (one other : State) (eo : one ≡ stateOf p from image) (eb : other ≡ stateOf p to image) where
-  pub pair-judged : (moved taken away gone bad unfit : Bool) (verdict : Verdict) → moved ≡ isMoved one → taken ≡ isTaken one → away ≡ isTaken other
+  pub pair-judged : (moved taken same away gone bad unfit : Bool) (verdict : Verdict) → moved ≡ isMoved one → taken ≡ isTaken one → same ≡ eqb (to .0) (from .0) → away ≡ isTaken other
       → gone ≡ isMoved other → bad ≡ isBad other → unfit ≡ (gone || bad)
       → verdict
       ≡ judged
-      (on moved 0x1D a ∷ on taken 0x1C a ∷ on (eqb (to .0) (from .0)) 0x22 a ∷ on away 0x1D alternate ∷ on unfit 0x1F alternate ∷ [])
+      (on moved 0x1D a ∷ on taken 0x1C a ∷ on same 0x22 a ∷ on away 0x1D alternate ∷ on unfit 0x1F alternate ∷ [])
       → verdict ≡ verdictOn p first a alternate image
-  pair-judged moved taken away gone bad unfit verdict em en ea eg ed eu ev =
-      ev ∙ rw (em, en, ea, eu, eg, ed, eo, eb, ef, et) (pair-rest p first a alternate _ _ h last el k)
+  pair-judged moved taken same away gone bad unfit verdict em en es ea eg ed eu ev =
+      ev ∙ rw (em, en, es, ea, eu, eg, ed, eo, eb, ef, et) (pair-rest p first a alternate _ _ h last el k)
 
 -- ---- what a verdict says
 module _ (p : Params) (first : ℕ) (a alternate : Lba) (image : List ℕ) (verdict : Verdict) (ev : verdict ≡ verdictOn p first a alternate image) where

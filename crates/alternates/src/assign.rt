@@ -72,7 +72,7 @@ fn assign_faults(image: &[u8], p: Params, first: u8, a: Lba, alternate: Lba) -> 
         return Verdict::Faulty(0x22, a);
     }
     let last = p.last_address();
-    if last.0 < alternate.0 {
+    if alternate.is_past(last) {
         return Verdict::Faulty(0x21, alternate);
     }
     let from = p.track_of(a);
@@ -84,7 +84,7 @@ fn assign_faults(image: &[u8], p: Params, first: u8, a: Lba, alternate: Lba) -> 
         alternate,
         is_moved(one),
         is_taken(one),
-        to.0 == from.0,
+        to.is_same(from),
         is_taken(other),
         either(is_moved(other), is_bad(other)),
     )

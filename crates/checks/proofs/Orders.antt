@@ -1,7 +1,7 @@
 -- Laws of the checks: control bits, bounds on counts and lengths, what the code's calls come to.
 use mathlib.Core.Path.{_≡_, refl}
 use mathlib.Core.Bool.{Bool, true, not, _&&_, _||_, and-true, and-false}
-use Prim.Native.Nat.{ℕ, _*_, _%_, _≤_, _<_}
+use Prim.Native.Nat.{ℕ, _+_, _-_, _*_, _%_, _≤_, _<_}
 use native.Mathlib.Nat.{mul-le-mul}
 use native.Mathlib.Omega.{arith}
 use native.Mathlib.Decide.{ℕ-discrete}
@@ -10,8 +10,10 @@ use borrow.Author.Tests.{eq-eqb, ne-eqb}
 use Rattle.base.specs.Pick.{pick}
 use Rattle.base.proofs.Decide.{pick-true, pick-false}
 use Rattle.geometry.specs.declared.params.Lba.{Lba}
+use Rattle.geometry.specs.declared.params.Params.{Params}
 use Rattle.geometry.specs.declared.config.Setting.{Setting}
 use Rattle.geometry.specs.declared.config.Setting.the-variants.{Valid, Invalid}
+use Rattle.geometry.specs.Params.{lastAddress, further}
 use Rattle.model.specs.declared.block.Block.{Block}
 use Rattle.model.specs.declared.table.Data.{Data}
 use Rattle.model.specs.declared.verdict.Hits.{Hits}
@@ -19,7 +21,7 @@ use Rattle.model.specs.declared.verdict.Verdict.{Verdict}
 use Rattle.model.specs.declared.verdict.View.{View}
 use Rattle.model.specs.Block.{countOf}
 use Rattle.model.specs.Table.{Check, FillBit, Counted, SparedWhole, TableRow, applies, rowFor}
-use Rattle.model.specs.Checks.{judged, isUnknown, controlWrong, withParams, notSpared, sizeIn, bytesOf, reachOf, hitsOf, inOrder, judge}
+use Rattle.model.specs.Checks.{judged, isUnknown, controlWrong, withParams, pastEnd, notSpared, sizeIn, bytesOf, reachOf, hitsOf, inOrder, judge}
 use Rattle.checks.specs.declared.table.Row.{Row}
 use Rattle.checks.specs.Rows.{has, bitOf, Says}
 use Rattle.checks.specs.Legal.{Legal}
@@ -33,6 +35,14 @@ module _ (named : Bool) (control : ℕ) (some : control % 128 ≡ 0 → ⊥) whe
   pub wrong-other : (control % 128 ≡ 32 → ⊥) → true ≡ controlWrong named control
   unfolding controlWrong
   wrong-other h = rw (ne-eqb _ _ some, ne-eqb _ _ h, and-false)
+
+-- ---- the last of `reach` addresses
+pub past-by : (p : Params) (a last there : Lba) (reach : ℕ) (past : Bool) → 1 ≤ reach → last ≡ lastAddress p → there ≡ further a (reach - 1)
+    → past ≡ ltb (last .0) (there .0) → past ≡ pastEnd a reach p
+unfolding pastEnd
+past-by p a last there reach past h el et e =
+    let is : a .0 + (reach - 1) ≡ a .0 + reach - 1 = omega arith in
+    rw (e, el, et, is)
 
 -- ---- bounds
 pub count-bounds : (b : Block) → b .extra < 256 → (1 ≤ countOf b) × (countOf b ≤ 256)

@@ -107,7 +107,7 @@ fn past_end(a: Lba, reach: usize, setting: Setting) -> bool
     match setting {
         Setting::Valid(p) => {
             let last = p.last_address();
-            last.0 < a.0 + (reach as u32) - 1
+            a.further(reach - 1).is_past(last)
         }
         Setting::Invalid => false,
     }
@@ -120,7 +120,7 @@ fn not_spared(whole: bool, a: Lba, setting: Setting) -> bool
     match setting {
         Setting::Valid(p) => {
             let first = p.track_of(a);
-            !both(whole, first.0 == 0)
+            !both(whole, first.is_first())
         }
         Setting::Invalid => false,
     }

@@ -69,7 +69,7 @@ pub fn good(entry: Drive, drive: u8, sectors: u16, bytes: u32) -> Ending
     ensures { λ r. ⌜ r ≡ good drive sectors bytes entry ⌝ }
 {
     Ending {
-        entry: with_sense(entry, sense_of(0, drive, Lba(0))),
+        entry: with_sense(entry, sense_of(0, drive, Lba::zero())),
         answer: Answer {
             number: 0,
             status: 32 * drive,

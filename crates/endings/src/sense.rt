@@ -29,12 +29,7 @@ pub fn sense_of(code: u8, drive: u8, at: Lba) -> [u8; 4]
     ensures { λ r. ⌜ r ≡ senseOf code drive at ⌝ }
 {
     if is_addressed(code) {
-        return [
-            code + 0x80,
-            32 * drive + (at.0 / 65536) as u8,
-            (at.0 / 256 % 256) as u8,
-            (at.0 % 256) as u8,
-        ];
+        return [code + 0x80, 32 * drive + at.high(), at.middle(), at.low()];
     }
     [code, 32 * drive, 0, 0]
 }

@@ -68,7 +68,7 @@ module _ (b : Block) (p : Params) (fill image map : List ℕ) (h : b .extra < p 
   made-lent t state left e = rw (← layout-lent (p .sectors) (b .extra) map h em) e
 
   pub drive-lent : (t : Track) (config left labelled : List ℕ) → t ≡ trackOf p (b .address)
-      → left ≡ soundFrom p (take (p .sectors - 0) map) fill (trackCount p - t .0) (t .0) image → labelled ≡ splice 0 (config ++ labelRest) left
+      → left ≡ soundFrom p (take (p .sectors - 0) map) fill (trackCount p - t .0) t image → labelled ≡ splice 0 (config ++ labelRest) left
       → labelled ≡ driveFormatted b p config fill image
   unfolding driveFormatted
   drive-lent t config left labelled et es el = el ∙ ap (splice 0 (config ++ labelRest)) (es ∙ rw (et, layout-lent (p .sectors) (b .extra) map h em))

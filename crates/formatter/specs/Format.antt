@@ -5,10 +5,10 @@ use lib.ListN.{length, take, drop, getD}
 use Rattle.base.specs.Part.{splice, rows}
 use Rattle.geometry.specs.declared.params.Params.{Params}
 use Rattle.geometry.specs.declared.params.Track.{Track}
+use Rattle.geometry.specs.Params.{nextTrack}
 use Rattle.track.specs.declared.id.Id.{Id}
 use Rattle.track.specs.declared.state.State.{State}
 use Rattle.track.specs.declared.state.State.the-variants.{Sound}
-use Rattle.track.specs.State.{track}
 use Rattle.track.specs.Id.{withSector, idBytes, idFor}
 use Rattle.track.specs.Image.{withTrack}
 
@@ -37,6 +37,6 @@ unfoldable pub formatted : Params → Track → State → (map fill : List ℕ) 
 formatted p t state map fill = slotsMade (idFor p t state 0) map fill
 
 -- n tracks from track t on become sound
-unfoldable pub soundFrom : Params → (map fill : List ℕ) → (n t : ℕ) → List ℕ → List ℕ
+unfoldable pub soundFrom : Params → (map fill : List ℕ) → (n : ℕ) → Track → List ℕ → List ℕ
 soundFrom p map fill zero t image = image
-soundFrom p map fill (suc n) t image = soundFrom p map fill n (t + 1) (withTrack p (track t) (formatted p (track t) Sound map fill) image)
+soundFrom p map fill (suc n) t image = soundFrom p map fill n (nextTrack t) (withTrack p t (formatted p t Sound map fill) image)

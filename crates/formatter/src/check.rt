@@ -64,7 +64,7 @@ fn ids_are(track: &[u8], p: Params, id: Id, map: &[u8]) -> bool
 fn home_state(t: Track, u: Track) -> State
     ensures { λ r. ⌜ r ≡ homeState t u ⌝ }
 {
-    if u.0 == t.0 {
+    if u.is_same(t) {
         return State::Sound;
     }
     State::Taken(t)

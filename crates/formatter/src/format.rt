@@ -74,12 +74,11 @@ pub fn format_at(image: &mut [u8], p: Params, t: Track, state: State, map: &[u8]
 // Formats the tracks from `first` to the last as sound.
 pub fn format_from(image: &mut [u8], p: Params, first: Track, map: &[u8], fill: &[u8])
     requires { ⌜ Fits p (now image) × (first .0 ≤ trackCount p) × (length (now map) ≡ p .sectors) × (length (now fill) ≡ p .size) ⌝ }
-    ensures { λ _. ⌜ now (image .exit) ≡ soundFrom p (now (map .entry)) (now (fill .entry)) (trackCount p - first .0) (first .0) (now (image .entry)) ⌝ }
+    ensures { λ _. ⌜ now (image .exit) ≡ soundFrom p (now (map .entry)) (now (fill .entry)) (trackCount p - first .0) first (now (image .entry)) ⌝ }
 {
-    let count = p.tracks();
-    let mut t = first.0;
-    while t < count {
-        format_at(image, p, Track(t), State::Sound, map, fill);
-        t += 1;
+    let mut t = first;
+    while p.has_track(t) {
+        format_at(image, p, t, State::Sound, map, fill);
+        t = t.next();
     }
 }

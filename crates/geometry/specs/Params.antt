@@ -1,5 +1,5 @@
 -- Document 01, 'Tracks and slots' and the end of 'Parameters': what the parameters C, H, n and D give.
-use Prim.Native.Nat.{ℕ, _+_, _-_, _*_, _/_, _%_, _≤_}
+use Prim.Native.Nat.{ℕ, suc, _+_, _-_, _*_, _/_, _%_, _≤_, _<_}
 use Rattle.geometry.specs.declared.params.Lba.{Lba}
 use Rattle.geometry.specs.declared.params.Track.{Track}
 use Rattle.geometry.specs.declared.params.Params.{Params}
@@ -51,3 +51,29 @@ headOf p t = t .0 % p .heads
 -- The last address of the drive.
 abbrev pub lastAddress : Params → Lba
 lastAddress p = record { 0 = trackCount p * p .sectors - 1 }
+
+-- ---- Addresses and tracks one after the other
+-- Addresses of the drive.
+abbrev pub addressCount : Params → ℕ
+addressCount p = trackCount p * p .sectors
+
+abbrev pub OnDrive : Params → Lba → Type 0
+OnDrive p a = a .0 < addressCount p
+
+-- An address in three bytes, high byte first.
+abbrev pub lbaOf : (high middle low : ℕ) → Lba
+lbaOf high middle low = record { 0 = high * 65536 + middle * 256 + low }
+
+-- The address n further on, and the next one.
+abbrev pub further : Lba → (n : ℕ) → Lba
+further a n = record { 0 = a .0 + n }
+
+abbrev pub next : Lba → Lba
+next a = record { 0 = suc (a .0) }
+
+-- Track number k, and the next one.
+abbrev pub track : (k : ℕ) → Track
+track k = record { 0 = k }
+
+abbrev pub nextTrack : Track → Track
+nextTrack t = record { 0 = suc (t .0) }

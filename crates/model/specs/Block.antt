@@ -1,16 +1,13 @@
 -- Document 01, 'Commands': the fields of a block.
-use Prim.Native.Nat.{ℕ, _+_, _*_, _/_, _%_}
+use Prim.Native.Nat.{ℕ, _/_, _%_}
 use mathlib.Core.Bool.{Bool}
 use mathlib.Core.List.{List}
 use lib.Dec.{leb, eqb}
 use Rattle.base.specs.Pick.{pick}
 use Rattle.base.specs.Byte.{byte}
 use Rattle.geometry.specs.declared.params.Lba.{Lba}
+use Rattle.geometry.specs.Params.{lbaOf}
 use Rattle.model.specs.declared.block.Block.{Block}
-
--- An address in three bytes, high byte first.
-abbrev pub lbaOf : (high middle low : ℕ) → Lba
-lbaOf high middle low = record { 0 = high * 65536 + middle * 256 + low }
 
 -- Opcode; bit 7, bits 6-5 drive, bits 4-0 address high; address middle; low; interleave or count; control.
 unfoldable pub blockOf : List ℕ → Block

@@ -14,7 +14,7 @@ use Rattle.geometry.specs.declared.medium.Medium.{Medium}
 use Rattle.geometry.specs.declared.medium.Medium.the-variants.{HardDisk, Floppy}
 use Rattle.geometry.specs.declared.config.Setting.{Setting}
 use Rattle.geometry.specs.declared.config.Setting.the-variants.{Valid, Invalid}
-use Rattle.geometry.specs.Params.{trackCount, trackOf, lastAddress}
+use Rattle.geometry.specs.Params.{trackCount, trackOf, lastAddress, further}
 use Rattle.geometry.specs.Medium.{mediumOf, isFloppy}
 use Rattle.geometry.specs.Config.{settingOf, labelRest, labelHolds}
 use Rattle.interleave.specs.Layout.{layoutOf}
@@ -67,7 +67,7 @@ madeAt b p t state fill image = withTrack p t (formatted p t state (layoutOf (p 
 unfoldable pub driveFormatted : Block → Params → (config fill image : List ℕ) → List ℕ
 driveFormatted b p config fill image =
     splice 0 (config ++ labelRest)
-    (soundFrom p (layoutOf (p .sectors) (b .extra)) fill (trackCount p - trackOf p (b .address) .0) (trackOf p (b .address) .0) image)
+    (soundFrom p (layoutOf (p .sectors) (b .extra)) fill (trackCount p - trackOf p (b .address) .0) (trackOf p (b .address)) image)
 
 unfoldable pub pendingEnded : Drive → Drive
 pendingEnded entry = record { sense = entry .sense; config = entry .config; known = entry .known; pending = false }
@@ -100,7 +100,7 @@ formatTrack b p state fill entry image =
 unfoldable pub transferEnding : Block → (sectors code bytes : ℕ) → Drive → Ending
 transferEnding b sectors code bytes entry =
     pick (eqb code 0) (good (b .drive) sectors bytes entry)
-    (failed (b .drive) (b .drive) code (record { 0 = b .address .0 + sectors }) sectors bytes entry)
+    (failed (b .drive) (b .drive) code (further (b .address) sectors) sectors bytes entry)
 
 -- Each sector read or written is left in the buffer's first D bytes.
 unfoldable pub transferred : Block → Drive → (buffer : List ℕ) → Transfer → Effect
@@ -108,10 +108,10 @@ transferred b entry buffer x =
     effect (transferEnding b (x .done) (x .code) (length (x .handed)) entry) (splice 0 (x .last) buffer) (x .handed) (x .image)
 
 unfoldable pub read : Block → Params → Drive → (buffer image : List ℕ) → Effect
-read b p entry buffer image = transferred b entry buffer (reading p (countOf b) (b .address .0) (begun image))
+read b p entry buffer image = transferred b entry buffer (reading p (countOf b) (b .address) (begun image))
 
 unfoldable pub write : Block → Params → (given : List ℕ) → Drive → (buffer image : List ℕ) → Effect
-write b p given entry buffer image = transferred b entry buffer (writing p (countOf b) (b .address .0) given (begun image))
+write b p given entry buffer image = transferred b entry buffer (writing p (countOf b) (b .address) given (begun image))
 
 -- ---- 0Eh Assign Alternate. A is the track of the block's address a, B the track of the address `alternate` given.
 -- First byte above 1Fh, 22h; B out of range, 21h; A moved, 1Dh; A taken, 1Ch; B = A, 22h; B taken, 1Dh; B moved or bad, 1Fh.

@@ -19,7 +19,7 @@ use Rattle.geometry.specs.declared.medium.Medium.{Medium}
 use Rattle.geometry.specs.declared.medium.Medium.the-variants.{HardDisk, Floppy}
 use Rattle.geometry.specs.declared.config.Setting.{Setting}
 use Rattle.geometry.specs.declared.config.Setting.the-variants.{Valid, Invalid}
-use Rattle.geometry.specs.Params.{trackCount, trackOf}
+use Rattle.geometry.specs.Params.{trackCount, trackOf, next, track}
 use Rattle.geometry.specs.Medium.{mediumOf}
 use Rattle.geometry.specs.Config.{settingOf}
 use Rattle.model.specs.declared.block.Block.{Block}
@@ -179,20 +179,20 @@ unfoldable pub paired : Kind → Lba → List Test
 paired kind a = on (isMoved kind) 0x1D a ∷ on (isTaken kind) 0x1C a ∷ []
 
 -- Format Drive: exactly one of a moved or taken track and its partner is below s.
-unfoldable pub parted : (s t u : ℕ) → Bool
-parted s t u = (ltb t s && leb s u) || (ltb u s && leb s t)
+unfoldable pub parted : (s t u : Track) → Bool
+parted s t u = (ltb (t .0) (s .0) && leb (s .0) (u .0)) || (ltb (u .0) (s .0) && leb (s .0) (t .0))
 
-unfoldable pub partedBy : (s t : ℕ) → Kind → Bool
+unfoldable pub partedBy : (s t : Track) → Kind → Bool
 partedBy s t stateless = false
 partedBy s t sound = false
 partedBy s t bad = false
-partedBy s t (moved u) = parted s t (u .0)
-partedBy s t (taken u) = parted s t (u .0)
+partedBy s t (moved u) = parted s t u
+partedBy s t (taken u) = parted s t u
 
 -- Some of the first n tracks is such a one.
-unfoldable pub someParted : (Track → Kind) → (s n : ℕ) → Bool
+unfoldable pub someParted : (Track → Kind) → (s : Track) → (n : ℕ) → Bool
 someParted kind s zero = false
-someParted kind s (suc t) = partedBy s t (kind (record { 0 = t })) || someParted kind s t
+someParted kind s (suc t) = partedBy s (track t) (kind (track t)) || someParted kind s t
 
 -- The alternate's address: three bytes, high byte first.
 unfoldable pub addressGiven : (given : List ℕ) → Lba
@@ -230,18 +230,18 @@ passing (Faulty code at) u rest = finished (Faulty code at) u
 passing Passed u rest = rest
 
 -- n sectors from address a on. On a track that is neither bad nor taken Read and Write use the map's bytes.
-unfoldable pub readFrom : Params → (n a : ℕ) → Disk → Passage
+unfoldable pub readFrom : Params → (n : ℕ) → Lba → Disk → Passage
 readFrom p zero a u = finished Passed u
 readFrom p (suc n) a u =
-    passing (judged (denied (u .kind (trackOf p (record { 0 = a }))) (record { 0 = a }))) u
-    (withFirst (u .held (record { 0 = a })) (readFrom p n (suc a) u))
+    passing (judged (denied (u .kind (trackOf p a)) a)) u
+    (withFirst (u .held a) (readFrom p n (next a) u))
 
-unfoldable pub writeFrom : Params → (n a : ℕ) → (given : List ℕ) → Disk → Passage
+unfoldable pub writeFrom : Params → (n : ℕ) → Lba → (given : List ℕ) → Disk → Passage
 writeFrom p zero a given u = finished Passed u
 writeFrom p (suc n) a given u =
-    passing (judged (denied (u .kind (trackOf p (record { 0 = a }))) (record { 0 = a }))) u
+    passing (judged (denied (u .kind (trackOf p a)) a)) u
     (withFirst (take (p .size) given)
-    (writeFrom p n (suc a) (drop (p .size) given) (storing (record { 0 = a }) (take (p .size) given) u)))
+    (writeFrom p n (next a) (drop (p .size) given) (storing a (take (p .size) given) u)))
 
 unfoldable pub inARow : List (List ℕ) → List ℕ
 inARow [] = []
@@ -273,25 +273,25 @@ filling b p m = fillingOn (mediumOf (b .drive)) b p m
 
 -- Format Drive: tracks from s to the last are sound, with their interleave and fill; the states of tracks past the last are
 -- forgotten; the configuration in force is stored; pending ends.
-unfoldable pub fromOn : Params → (s t : ℕ) → Bool
-fromOn p s t = leb s t && ltb t (trackCount p)
+unfoldable pub fromOn : Params → (s t : Track) → Bool
+fromOn p s t = leb (s .0) (t .0) && ltb (t .0) (trackCount p)
 
-unfoldable pub reformatted : Params → (s inter : ℕ) → (fill : List ℕ) → Disk → Disk
+unfoldable pub reformatted : Params → (s : Track) → (inter : ℕ) → (fill : List ℕ) → Disk → Disk
 reformatted p s inter fill u = record {
   len = u .len;
   stored = u .force;
   force = u .force;
   pending = false;
-  kind = λ t. pick (ltb (t .0) (trackCount p)) (pick (leb s (t .0)) sound (u .kind t)) stateless;
-  inter = λ t. pick (fromOn p s (t .0)) inter (u .inter t);
-  held = λ a. pick (fromOn p s (trackOf p a .0)) fill (u .held a);
+  kind = λ t. pick (ltb (t .0) (trackCount p)) (pick (leb (s .0) (t .0)) sound (u .kind t)) stateless;
+  inter = λ t. pick (fromOn p s t) inter (u .inter t);
+  held = λ a. pick (fromOn p s (trackOf p a)) fill (u .held a);
 }
 
 -- ---- A command whose checks have passed, up to its own, on a drive with parameters p in force
 unfoldable pub formatDrive : Block → Params → Machine → Disk → Reply × Machine
 formatDrive b p m u =
-    providing (judged (on (someParted (u .kind) (trackOf p (b .address) .0) (trackCount p)) 0x1D (b .address) ∷ [])) b m
-    (well b 0 [] (withDisk (b .drive) (reformatted p (trackOf p (b .address) .0) (b .extra) (filling b p m) u) m))
+    providing (judged (on (someParted (u .kind) (trackOf p (b .address)) (trackCount p)) 0x1D (b .address) ∷ [])) b m
+    (well b 0 [] (withDisk (b .drive) (reformatted p (trackOf p (b .address)) (b .extra) (filling b p m) u) m))
 
 -- Check Track gives 1Ah exactly when its interleave is not the track's.
 unfoldable pub checkTrack : Block → Params → Machine → Disk → Reply × Machine
@@ -313,10 +313,10 @@ formatBadTrack b p m u =
     (well b 0 [] (withDisk (b .drive) (becomes (trackOf p (b .address)) bad (b .extra) u) m))
 
 unfoldable pub read : Block → Params → Machine → Disk → Reply × Machine
-read b p m u = transfer b (readFrom p (countOf b) (b .address .0) u) (inARow (readFrom p (countOf b) (b .address .0) u .sectors)) m
+read b p m u = transfer b (readFrom p (countOf b) (b .address) u) (inARow (readFrom p (countOf b) (b .address) u .sectors)) m
 
 unfoldable pub write : Block → Params → (given : List ℕ) → Machine → Disk → Reply × Machine
-write b p given m u = transfer b (writeFrom p (countOf b) (b .address .0) given u) [] m
+write b p given m u = transfer b (writeFrom p (countOf b) (b .address) given u) [] m
 
 -- An assignment sets both tracks' states and interleaves, and B's fill at each address of A, which it makes moved.
 unfoldable pub assignTo : Params → (A B : Track) → (inter : ℕ) → (fill : List ℕ) → Disk → Disk

@@ -2,7 +2,7 @@
 use Prim.Native.Nat.{ℕ, _+_, _*_, _≤_, _<_}
 use mathlib.Core.List.{List}
 use Rattle.geometry.specs.declared.params.Params.{Params}
-use Rattle.geometry.specs.Params.{trackCount, trackOf}
+use Rattle.geometry.specs.Params.{trackCount, trackOf, addressCount}
 use Rattle.track.specs.Image.{Fits}
 use Rattle.model.specs.declared.block.Block.{Block}
 use Rattle.model.specs.Block.{countOf}
@@ -27,5 +27,5 @@ pub record OnTrack (b : Block) (p : Params) (image : List ℕ) : Type 0 where
 pub record OnSectors (b : Block) (p : Params) (image : List ℕ) (room : ℕ) : Type 0 where
   pub fits : Fits p image
   pub block : WellFormed b
-  pub inside : b .address .0 + countOf b ≤ trackCount p * p .sectors
+  pub inside : b .address .0 + countOf b ≤ addressCount p
   pub enough : countOf b * p .size ≤ room

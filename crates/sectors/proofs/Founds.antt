@@ -3,13 +3,13 @@ use mathlib.Core.Path.{_≡_, refl, sym, ap, _∙_}
 use mathlib.Core.Bool.{Bool, true, false}
 use mathlib.Core.Option.{Option, none, some}
 use mathlib.Core.List.{List}
-use Prim.Native.Nat.{ℕ, _*_, _<_}
+use Prim.Native.Nat.{ℕ, _+_, _≤_, _<_}
 use native.Mathlib.Omega.{arith}
 use Rattle.base.specs.Pick.{pick}
 use Rattle.geometry.specs.declared.params.Params.{Params}
 use Rattle.geometry.specs.declared.params.Track.{Track}
 use Rattle.geometry.specs.declared.params.Lba.{Lba}
-use Rattle.geometry.specs.Params.{Within, trackCount, trackOf, sectorOf}
+use Rattle.geometry.specs.Params.{Within, trackCount, trackOf, sectorOf, addressCount, OnDrive, further}
 use Rattle.geometry.proofs.Addresses.{track-in}
 use Rattle.track.specs.declared.id.Id.{Id}
 use Rattle.track.specs.declared.find.Where.{Where}
@@ -109,21 +109,25 @@ module _ (p : Params) (t : Track) (s : ℕ) (image : List ℕ) where
 
 -- ---- by an address
 -- the track of an address of the drive
-pub track-below : (p : Params) (a : Lba) (t : Track) → Within p → a .0 < trackCount p * p .sectors → t ≡ trackOf p a → t .0 < trackCount p
+pub track-below : (p : Params) (a : Lba) (t : Track) → Within p → OnDrive p a → t ≡ trackOf p a → t .0 < trackCount p
 track-below p a t w h e = rw e (track-in p w a h)
 
-module _ (p : Params) (a : ℕ) (image : List ℕ) where
-  pub found-slot : (u : Track) (k : ℕ) → Within p → a < trackCount p * p .sectors → found p a image ≡ Slot u k
+-- one of n addresses of the drive
+pub further-on-drive : (p : Params) (a b : Lba) (i n : ℕ) → a .0 + n ≤ addressCount p → i < n → b ≡ further a i → OnDrive p b
+further-on-drive p a b i n h l e = rw e (omega arith)
+
+module _ (p : Params) (a : Lba) (image : List ℕ) where
+  pub found-slot : (u : Track) (k : ℕ) → Within p → OnDrive p a → found p a image ≡ Slot u k
       → (u .0 < trackCount p) × (k < p .sectors)
   unfolding found
-  found-slot u k w h e = slot-in p _ image u k _ (track-in p w (record { 0 = a }) h) e
+  found-slot u k w h e = slot-in p _ image u k _ (track-in p w a h) e
 
   -- of the slots that hold one sector the first is found
   pub found-first : (u : Track) (k : ℕ) → found p a image ≡ Slot u k → (j s : ℕ) → j < k → holds p s (trackBytes p u image) k ≡ true
       → holds p s (trackBytes p u image) j ≡ false
   unfolding found
   found-first u k e j s l h =
-      let r = sectorOf p (record { 0 = a }) in
+      let r = sectorOf p a in
       let used = slot-used p r image u k _ e in
       let same : s ≡ r = holds-one p s r (trackBytes p u image) k h (used-holds p r (trackBytes p u image) k used .1) in
       rw same (used-first p r (trackBytes p u image) k used j l)

@@ -13,7 +13,7 @@ use Rattle.base.proofs.Parts.{length-part, length-splice, part-lent, splice-len
 use Rattle.geometry.specs.declared.params.Params.{Params}
 use Rattle.geometry.specs.declared.params.Lba.{Lba}
 use Rattle.geometry.specs.declared.params.Track.{Track}
-use Rattle.geometry.specs.Params.{trackCount, trackOf, sectorOf}
+use Rattle.geometry.specs.Params.{trackOf, sectorOf, addressCount, further}
 use Rattle.track.specs.declared.find.Where.{Where}
 use Rattle.track.specs.declared.find.Where.the-variants.{On, Off}
 use Rattle.track.specs.Image.{Fits, trackBytes}
@@ -26,7 +26,7 @@ use Rattle.sectors.proofs.Along.{Along, along-here, along-off}
 use Rattle.sectors.proofs.Readings.{Ahead, Handed, reading-ahead, reading-parts, reading-ended, reading-handed, reading-ran}
 
 -- ---- n sectors of one track
-off-along : (p : Params) (n a : ℕ) (image : List ℕ) (t : Track) (s code : ℕ) (places : List ℕ) → Along p n a t s → 1 ≤ n
+off-along : (p : Params) (n : ℕ) (a : Lba) (image : List ℕ) (t : Track) (s code : ℕ) (places : List ℕ) → Along p n a t s → 1 ≤ n
     → whereOf p t image ≡ Off code → HasRead p n a image (record { sectors = 0; code = code }) places places
 unfolding reading onward ended begun splice
 off-along p zero a image t s code places along h e = absurd (omega arith)
@@ -35,20 +35,20 @@ off-along p (suc m) a image t s code places along h e =
 
 module _ (p : Params) (n : ℕ) (a : Lba) (image : List ℕ) (t : Track) (w : Where) (h : sectorOf p a + n ≤ p .sectors)
     (et : t ≡ trackOf p a) (ew : w ≡ whereOf p t image) where
-  along : Along p n (a .0) t (sectorOf p a)
+  along : Along p n a t (sectorOf p a)
   along = rw et (along-here p n a h)
 
   -- no track is searched for them
-  pub part-off : (code : ℕ) (places : List ℕ) → 1 ≤ n → w ≡ Off code → HasRead p n (a .0) image (record { sectors = 0; code = code }) places places
-  part-off code places some e = off-along p n (a .0) image t (sectorOf p a) code places along some (sym ew ∙ e)
+  pub part-off : (code : ℕ) (places : List ℕ) → 1 ≤ n → w ≡ Off code → HasRead p n a image (record { sectors = 0; code = code }) places places
+  part-off code places some e = off-along p n a image t (sectorOf p a) code places along some (sym ew ∙ e)
 
   -- track u is: what its run reads
   pub part-on : (u : Track) (first : ℕ) (lent places₀ places : List ℕ) (r : ℕ) (done : Done) → w ≡ On u
       → first ≡ sectorOf p a → lent ≡ trackBytes p u image
       → (r ≡ runDone p n first lent) × (places ≡ splice 0 (runRead p n first lent) places₀)
-      → (done .sectors ≡ r) × (done .code ≡ pick (ltb r n) 0x14 0) → HasRead p n (a .0) image done places₀ places
+      → (done .sectors ≡ r) × (done .code ≡ pick (ltb r n) 0x14 0) → HasRead p n a image done places₀ places
   part-on u first lent places₀ places r done e ef el ran d =
-      let x = reading-ran p image u t (sym ew ∙ e) n (a .0) (sectorOf p a) along in
+      let x = reading-ran p image u t (sym ew ∙ e) n a (sectorOf p a) along in
       let is = rw (ef, el) at ran in
       record {
         sectors = d .0 ∙ is .0 ∙ sym (x .0);
@@ -80,13 +80,13 @@ read-on x y z i at size end done area₀ area after w ry rz ly lz ee room = reco
 }
 
 -- ---- the loop: i sectors are read, and all went well
-pub record Reading (p : Params) (n a : ℕ) (image area₀ area : List ℕ) (i at : ℕ) : Type 0 where
+pub record Reading (p : Params) (n : ℕ) (a : Lba) (image area₀ area : List ℕ) (i at : ℕ) : Type 0 where
   pub most : i ≤ n
   pub place : at ≡ i * p .size
   pub len : length area ≡ length area₀
   pub read : HasRead p i a image (record { sectors = i; code = 0 }) area₀ area
 
-module _ (p : Params) (n a : ℕ) (image area₀ : List ℕ) where
+module _ (p : Params) (n : ℕ) (a : Lba) (image area₀ : List ℕ) where
   pub reading-none : Reading p n a image area₀ area₀ 0 0
   unfolding reading begun splice
   reading-none = record {
@@ -100,30 +100,33 @@ module _ (p : Params) (n a : ℕ) (image area₀ : List ℕ) where
     pub reading-all : n ≤ i → HasRead p n a image (record { sectors = i; code = 0 }) area₀ area
     reading-all l = let e : n ≡ i = omega (arith, w .most) in rw e (w .read)
 
-    module _ (fits : Fits p image) (h : a + n ≤ trackCount p * p .sectors) (h₀ : n * p .size ≤ length area₀) (m : ℕ) (hm : i + m ≤ n) where
+    module _ (fits : Fits p image) (h : a .0 + n ≤ addressCount p) (h₀ : n * p .size ≤ length area₀) (m : ℕ) (hm : i + m ≤ n) where
       -- room for m sectors more
       pub reading-room : at + m * p .size ≤ length area
       reading-room = omega (arith, w .place, w .len, add-mul i m (p .size), mul-le-mul-right (p .size) hm)
 
-      module _ (done : Done) (after : List ℕ) (end : ℕ) (ee : end ≡ at + m * p .size)
-          (r : HasRead p m (a + i) image done (take (end - at) (drop at area)) after) where
+      module _ (b : Lba) (eb : b ≡ further a i) (done : Done) (after : List ℕ) (end : ℕ) (ee : end ≡ at + m * p .size)
+          (part : HasRead p m b image done (take (end - at) (drop at area)) after) where
+        r : HasRead p m (further a i) image done (take (end - at) (drop at area)) after
+        r = rw eb at part
+
         before : Handed p i image (reading p i a (begun image))
         before = reading-handed p image fits i a (omega arith)
 
-        here : Handed p m image (reading p m (a + i) (begun image))
-        here = reading-handed p image fits m (a + i) (omega arith)
+        here : Handed p m image (reading p m (further a i) (begun image))
+        here = reading-handed p image fits m (further a i) (omega arith)
 
         -- with those before
         together : HasRead p (i + m) a image (record { sectors = i + done .sectors; code = done .code }) area₀ (putMid at (end - at) area after)
         unfolding begun
         together =
             let y = reading p i a (begun image) in
-            let few : length (reading p m (a + i) (begun image) .handed) ≤ m * p .size =
+            let few : length (reading p m (further a i) (begun image) .handed) ≤ m * p .size =
             omega (arith, here .long, mul-le-mul-right (p .size) (here .most)) in
             let filled : length (y .handed) ≡ at = before .long ∙ rw (← w .read .sectors) (sym (w .place)) in
-            let ahead = reading-ahead p m (a + i) y image (sym (w .read .code)) (before .same) in
+            let ahead = reading-ahead p m (further a i) y image (sym (w .read .code)) (before .same) in
             rw (reading-parts p m i a (begun image) refl (sym (w .read .code)))
-            (read-on _ y (reading p m (a + i) (begun image)) i at (m * p .size) end done area₀ area after
+            (read-on _ y (reading p m (further a i) (begun image)) i at (m * p .size) end done area₀ area after
             ahead (w .read) r filled few ee (omega (arith, reading-room)))
 
         pub reading-most : i + done .sectors ≤ n

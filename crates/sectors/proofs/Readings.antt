@@ -15,8 +15,9 @@ use Rattle.base.specs.Pick.{pick}
 use Rattle.base.specs.Part.{part}
 use Rattle.base.proofs.Decide.{pick-true, pick-false}
 use Rattle.geometry.specs.declared.params.Params.{Params}
+use Rattle.geometry.specs.declared.params.Lba.{Lba}
 use Rattle.geometry.specs.declared.params.Track.{Track}
-use Rattle.geometry.specs.Params.{trackCount}
+use Rattle.geometry.specs.Params.{trackCount, addressCount, further, next}
 use Rattle.track.specs.declared.find.Where.the-variants.{On}
 use Rattle.track.specs.Image.{Fits, trackBytes, slotData}
 use Rattle.track.specs.Find.{Sector, Slot, Fault, whereOf, slotUsed, sectorIn}
@@ -52,16 +53,16 @@ module _ (d : ℕ) (h : List ℕ) (p : Params) where
     ahead-onward f g next (Slot u k) = next u k
 
   -- it stays so
-  ahead-on : (m a : ℕ) (x y : Transfer) → Ahead d h x y → Ahead d h (reading p m a x) (reading p m a y)
+  ahead-on : (m : ℕ) (a : Lba) (x y : Transfer) → Ahead d h x y → Ahead d h (reading p m a x) (reading p m a y)
   unfolding reading
   ahead-on zero a x y w = w
   ahead-on (suc m) a x y w =
       let same : found p a (x .image) ≡ found p a (y .image) = ap (found p a) (w .image) in
       rw same
-      (ahead-onward x y w _ _ (λ u k. ahead-on m (suc a) (readSlot p x u k) (readSlot p y u k) (ahead-slot x y w u k)) (found p a (y .image)))
+      (ahead-onward x y w _ _ (λ u k. ahead-on m (next a) (readSlot p x u k) (readSlot p y u k) (ahead-slot x y w u k)) (found p a (y .image)))
 
 -- reading on is reading from the start, added to what is done
-pub reading-ahead : (p : Params) (m a : ℕ) (x : Transfer) (image : List ℕ) → x .code ≡ 0 → x .image ≡ image
+pub reading-ahead : (p : Params) (m : ℕ) (a : Lba) (x : Transfer) (image : List ℕ) → x .code ≡ 0 → x .image ≡ image
     → Ahead (x .done) (x .handed) (reading p m a x) (reading p m a (begun image))
 unfolding begun
 reading-ahead p m a x image z e =
@@ -69,41 +70,41 @@ reading-ahead p m a x image z e =
     (record { done = sym (add-zero (x .done)); handed = sym (append-nil (x .handed)); image = e; code = z })
 
 -- ---- in parts: k more sectors from address a on, unless a code has ended the transfer
-abbrev further : Params → (k a : ℕ) → Transfer → Transfer
-further p k a x = pick (eqb (x .code) 0) (reading p k a x) x
+abbrev behind : Params → (k : ℕ) → Lba → Transfer → Transfer
+behind p k a x = pick (eqb (x .code) 0) (reading p k a x) x
 
 module _ (p : Params) (k : ℕ) where
-  further-on : (a : ℕ) (x : Transfer) → x .code ≡ 0 → further p k a x ≡ reading p k a x
-  further-on a x z = pick-true _ _ _ (eq-eqb (x .code) 0 z)
+  behind-on : (a : Lba) (x : Transfer) → x .code ≡ 0 → behind p k a x ≡ reading p k a x
+  behind-on a x z = pick-true _ _ _ (eq-eqb (x .code) 0 z)
 
-  further-ended : (a : ℕ) (x : Transfer) → (x .code ≡ 0 → ⊥) → further p k a x ≡ x
-  further-ended a x n = pick-false _ _ _ (ne-eqb (x .code) 0 n)
+  behind-ended : (a : Lba) (x : Transfer) → (x .code ≡ 0 → ⊥) → behind p k a x ≡ x
+  behind-ended a x n = pick-false _ _ _ (ne-eqb (x .code) 0 n)
 
-  further-onward : (a : ℕ) (x : Transfer) (f g : Track → ℕ → Transfer) → ((u : Track) (j : ℕ) → f u j ≡ further p k a (g u j)) → (s : Sector)
-      → ((code : ℕ) → s ≡ Fault code → Code code) → onward x f s ≡ further p k a (onward x g s)
+  behind-onward : (a : Lba) (x : Transfer) (f g : Track → ℕ → Transfer) → ((u : Track) (j : ℕ) → f u j ≡ behind p k a (g u j)) → (s : Sector)
+      → ((code : ℕ) → s ≡ Fault code → Code code) → onward x f s ≡ behind p k a (onward x g s)
   unfolding onward ended
-  further-onward a x f g next (Fault code) coded =
-      sym (further-ended a (ended code x) (λ z. omega (arith, coded code refl .0)))
-  further-onward a x f g next (Slot u j) coded = next u j
+  behind-onward a x f g next (Fault code) coded =
+      sym (behind-ended a (ended code x) (λ z. omega (arith, coded code refl .0)))
+  behind-onward a x f g next (Slot u j) coded = next u j
 
-  parts : (m a : ℕ) (x : Transfer) → x .code ≡ 0 → reading p (m + k) a x ≡ further p k (a + m) (reading p m a x)
+  parts : (m : ℕ) (a : Lba) (x : Transfer) → x .code ≡ 0 → reading p (m + k) a x ≡ behind p k (further a m) (reading p m a x)
   unfolding reading readSlot
-  parts zero a x z = rw (zero-add k, add-zero a) (sym (further-on a x z))
+  parts zero a x z = rw (zero-add k, add-zero (a .0)) (sym (behind-on a x z))
   parts (suc m) a x z =
       let e : suc m + k ≡ suc (m + k) = omega arith in
-      let on : a + suc m ≡ suc a + m = omega arith in
+      let on : a .0 + suc m ≡ suc (a .0) + m = omega arith in
       rw (e, on)
-      (further-onward (suc a + m) x _ _ (λ u j. parts m (suc a) (readSlot p x u j) refl)
+      (behind-onward (further (next a) m) x _ _ (λ u j. parts m (next a) (readSlot p x u j) refl)
       (found p a (x .image)) (found-fault p a (x .image)))
 
-  module _ (m a : ℕ) (x : Transfer) (z : x .code ≡ 0) where
+  module _ (m : ℕ) (a : Lba) (x : Transfer) (z : x .code ≡ 0) where
     -- the first part went well: the second goes on from there
-    pub reading-parts : reading p m a x .code ≡ 0 → reading p (m + k) a x ≡ reading p k (a + m) (reading p m a x)
-    reading-parts y = parts m a x z ∙ further-on (a + m) (reading p m a x) y
+    pub reading-parts : reading p m a x .code ≡ 0 → reading p (m + k) a x ≡ reading p k (further a m) (reading p m a x)
+    reading-parts y = parts m a x z ∙ behind-on (further a m) (reading p m a x) y
 
     -- it did not: that is the whole
     pub reading-ended : (reading p m a x .code ≡ 0 → ⊥) → reading p (m + k) a x ≡ reading p m a x
-    reading-ended n = parts m a x z ∙ further-ended (a + m) (reading p m a x) n
+    reading-ended n = parts m a x z ∙ behind-ended (further a m) (reading p m a x) n
 
 -- ---- n sectors asked for: no more are done, and all where no code has ended it; each is D bytes, one behind the other
 pub record Handed (p : Params) (n : ℕ) (image : List ℕ) (x : Transfer) : Type 0 where
@@ -166,7 +167,7 @@ module _ (p : Params) (image : List ℕ) (fits : Fits p image) where
           last = λ i e. last-more i (p .size) (x .handed) bytes (w .long ∙ ap (λ (j : ℕ). j * p .size) (suc-same e)) lb;
         }
 
-  handed-on : (m n a : ℕ) (x : Transfer) → Handed p n image x → x .code ≡ 0 → a + m ≤ trackCount p * p .sectors
+  handed-on : (m n : ℕ) (a : Lba) (x : Transfer) → Handed p n image x → x .code ≡ 0 → a .0 + m ≤ addressCount p
       → Handed p (n + m) image (reading p m a x)
   unfolding reading readSlot
   handed-on zero n a x w z h = rw add-zero w
@@ -175,11 +176,11 @@ module _ (p : Params) (image : List ℕ) (fits : Fits p image) where
       (λ code e. handed-ended n x w (suc m) code (found-fault p a (x .image) code e))
       (λ u k e.
       let there = found-slot p a (x .image) u k (fits .within) (omega arith) e in
-      let next = handed-slot n x w u k z (there .0) (there .1) in
+      let more = handed-slot n x w u k z (there .0) (there .1) in
       let on : n + suc m ≡ suc n + m = omega arith in
-      rw on (handed-on m (suc n) (suc a) (readSlot p x u k) next refl (omega arith)))
+      rw on (handed-on m (suc n) (next a) (readSlot p x u k) more refl (omega arith)))
 
-  pub reading-handed : (n a : ℕ) → a + n ≤ trackCount p * p .sectors → Handed p n image (reading p n a (begun image))
+  pub reading-handed : (n : ℕ) (a : Lba) → a .0 + n ≤ addressCount p → Handed p n image (reading p n a (begun image))
   unfolding begun
   reading-handed n a h = rw zero-add at (handed-on n 0 a (begun image) handed-none refl h)
 
@@ -189,13 +190,13 @@ ReadAlong p m s bytes x = (x .done ≡ runDone p m s bytes) × (x .handed ≡ ru
 
 module _ (p : Params) (image : List ℕ) (u : Track) where
   -- one more in front
-  ran-more : (m a s : ℕ) (o : Option ℕ) → slotUsed p s (trackBytes p u image) ≡ o → found p a image ≡ sectorIn u o
-      → ReadAlong p m (suc s) (trackBytes p u image) (reading p m (suc a) (begun image))
+  ran-more : (m : ℕ) (a : Lba) (s : ℕ) (o : Option ℕ) → slotUsed p s (trackBytes p u image) ≡ o → found p a image ≡ sectorIn u o
+      → ReadAlong p m (suc s) (trackBytes p u image) (reading p m (next a) (begun image))
       → ReadAlong p (suc m) s (trackBytes p u image) (reading p (suc m) a (begun image))
   unfolding runDone runRead onSlot sectorIn reading onward begun ended readSlot
   ran-more m a s none e f r = rw (e, f) (refl, refl, sym (pick-true _ _ _ (lt-ltb 0 (suc m) (omega arith))))
   ran-more m a s (some k) e f r =
-      let w = reading-ahead p m (suc a) (readSlot p (begun image) u k) image refl refl in
+      let w = reading-ahead p m (next a) (readSlot p (begun image) u k) image refl refl in
       let d = runDone p m (suc s) (trackBytes p u image) in
       rw (e, f) (
         w .done ∙ ap (λ (i : ℕ). 1 + i) (r .0) ∙ one-add d,
@@ -203,10 +204,10 @@ module _ (p : Params) (image : List ℕ) (u : Track) where
         w .code ∙ r .2 ∙ ap (λ (b : Bool). pick b 0x14 0) (sym (leb·suc-suc (suc d) m)),
       )
 
-  pub reading-ran : (t : Track) → whereOf p t image ≡ On u → (m a s : ℕ) → Along p m a t s
+  pub reading-ran : (t : Track) → whereOf p t image ≡ On u → (m : ℕ) (a : Lba) (s : ℕ) → Along p m a t s
       → ReadAlong p m s (trackBytes p u image) (reading p m a (begun image))
   unfolding runDone runRead reading begun
   reading-ran t on zero a s along = (refl, refl, sym (pick-false _ _ _ (le-ltb 0 0 (omega arith))))
   reading-ran t on (suc m) a s along =
       ran-more m a s (slotUsed p s (trackBytes p u image)) refl (along-on p image m a t s along u on)
-      (reading-ran t on m (suc a) (suc s) (along-next p m a t s along))
+      (reading-ran t on m (next a) (suc s) (along-next p m a t s along))

@@ -7,7 +7,9 @@ use native.Mathlib.Nat.{zero-mul, suc-mul, add-mul, mul-le-mul-right, add-zero, 
 use lib.ListN.{length, take, drop}
 use lib.Seq.{take-nil, take-take, drop-drop}
 use Rattle.geometry.specs.declared.params.Params.{Params}
+use Rattle.geometry.specs.declared.params.Lba.{Lba}
 use Rattle.geometry.specs.declared.params.Track.{Track}
+use Rattle.geometry.specs.Params.{further, next}
 use Rattle.track.specs.Image.{Fits}
 use Rattle.sectors.specs.Transfer.{Transfer, begun, ended, writeSlot, found, writing}
 use Rattle.sectors.specs.declared.transfer.Done.{Done}
@@ -43,56 +45,56 @@ beside-slot : (p : Params) (d : ℕ) (sector : List ℕ) (x y : Transfer) (u : T
 unfolding writeSlot
 beside-slot p d sector x y u k b = record { done = omega (arith, b .done); code = refl; image = rw (b .image) refl }
 
-beside : (p : Params) (d m a : ℕ) (given : List ℕ) (x y : Transfer) → Beside d x y
+beside : (p : Params) (d m : ℕ) (a : Lba) (given : List ℕ) (x y : Transfer) → Beside d x y
     → Beside d (writing p m a given x) (writing p m a (take (m * p .size) given) y)
 unfolding writing
 beside p d zero a given x y b = b
 beside p d (suc m) a given x y b =
     onward-both (Beside d) x y _ _ _ _ (ap (found p a) (b .image)) (λ code e. beside-ended d code x y b)
     (λ u k. rw (← next-same m (p .size) given, ← rest-same m (p .size) given)
-    (beside p d m (suc a) (drop (p .size) given) _ _ (beside-slot p d (take (p .size) given) x y u k b)))
+    (beside p d m (next a) (drop (p .size) given) _ _ (beside-slot p d (take (p .size) given) x y u k b)))
 
 -- ---- parts put together
 module _ (p : Params) (k : ℕ) where
   -- all of a part was written: what comes behind it goes on from there
-  joined : (m a : ℕ) (given : List ℕ) (x : Transfer) → writing p m a given x .code ≡ 0
-      → writing p (m + k) a given x ≡ writing p k (a + m) (drop (m * p .size) given) (writing p m a given x)
+  joined : (m : ℕ) (a : Lba) (given : List ℕ) (x : Transfer) → writing p m a given x .code ≡ 0
+      → writing p (m + k) a given x ≡ writing p k (further a m) (drop (m * p .size) given) (writing p m a given x)
   unfolding writing ended
   joined zero a given x z = rw (zero-add, zero-mul, add-zero) refl
   joined (suc m) a given x z =
-      let on : suc a + m ≡ a + suc m = omega arith in
+      let on : suc (a .0) + m ≡ a .0 + suc m = omega arith in
       let far : p .size + m * p .size ≡ suc m * p .size = omega (arith, suc-mul m (p .size)) in
       let past : drop (m * p .size) (drop (p .size) given) ≡ drop (suc m * p .size) given =
       drop-drop (m * p .size) (p .size) given ∙ ap (λ (i : ℕ). drop i given) far in
       rw suc-add
-      (onward-both (λ l r. r .code ≡ 0 → l ≡ writing p k (a + suc m) (drop (suc m * p .size) given) r) x x _ _ _ _ refl
+      (onward-both (λ l r. r .code ≡ 0 → l ≡ writing p k (further a (suc m)) (drop (suc m * p .size) given) r) x x _ _ _ _ refl
       (λ code e zc. absurd (omega (arith, found-fault p a (x .image) code e .0)))
-      (λ u j zc. rw (← on, ← past) (joined m (suc a) (drop (p .size) given) _ zc)) z)
+      (λ u j zc. rw (← on, ← past) (joined m (next a) (drop (p .size) given) _ zc)) z)
 
   -- a part ended before: nothing comes behind it
-  stopped : (m a : ℕ) (given : List ℕ) (x : Transfer) → x .code ≡ 0 → (writing p m a given x .code ≡ 0 → ⊥)
+  stopped : (m : ℕ) (a : Lba) (given : List ℕ) (x : Transfer) → x .code ≡ 0 → (writing p m a given x .code ≡ 0 → ⊥)
       → writing p (m + k) a given x ≡ writing p m a given x
   unfolding writing writeSlot
   stopped zero a given x z n = absurd (n z)
   stopped (suc m) a given x z n =
       rw suc-add
       (onward-both (λ l r. (r .code ≡ 0 → ⊥) → l ≡ r) x x _ _ _ _ refl (λ code e nc. refl)
-      (λ u j nc. stopped m (suc a) (drop (p .size) given) _ refl nc) n)
+      (λ u j nc. stopped m (next a) (drop (p .size) given) _ refl nc) n)
 
 -- ---- how many sectors
 record Counted (n : ℕ) (x : Transfer) : Type 0 where
   pub most : x .done ≤ n
   pub all : x .code ≡ 0 → x .done ≡ n
 
-counted : (p : Params) (n m a : ℕ) (given : List ℕ) (x : Transfer) → x .done + m ≡ n → Counted n (writing p m a given x)
+counted : (p : Params) (n m : ℕ) (a : Lba) (given : List ℕ) (x : Transfer) → x .done + m ≡ n → Counted n (writing p m a given x)
 unfolding writing writeSlot ended
 counted p n zero a given x e = record { most = omega arith; all = λ z. omega arith }
 counted p n (suc m) a given x e =
     onward-has (Counted n) x _ (found p a (x .image))
     (λ code ef. record { most = omega arith; all = λ z. absurd (omega (arith, found-fault p a (x .image) code ef .0)) })
-    (λ u k ef. counted p n m (suc a) (drop (p .size) given) _ (omega arith))
+    (λ u k ef. counted p n m (next a) (drop (p .size) given) _ (omega arith))
 
-module _ (p : Params) (n a : ℕ) (given image after : List ℕ) (r : Done) (w : HasWritten p n a given r image after) where
+module _ (p : Params) (n : ℕ) (a : Lba) (given image after : List ℕ) (r : Done) (w : HasWritten p n a given r image after) where
   has-counted : Counted n (writing p n a given (begun image))
   unfolding begun
   has-counted = counted p n n a given (begun image) (omega arith)
@@ -109,14 +111,14 @@ begun-beside : (i : ℕ) (image : List ℕ) (x : Transfer) → i ≡ x .done →
 unfolding begun
 begun-beside i image x ed ec ei = record { done = omega arith; code = sym ec; image = sym ei }
 
-module _ (p : Params) (a : ℕ) (given image₀ : List ℕ) where
+module _ (p : Params) (a : Lba) (given image₀ : List ℕ) where
   -- i sectors, and then m more
   has-joined : (i m : ℕ) (image after : List ℕ) (r : Done) → HasWritten p i a given (record { sectors = i; code = 0 }) image₀ image
-      → HasWritten p m (a + i) (take (m * p .size) (drop (i * p .size) given)) r image after
+      → HasWritten p m (further a i) (take (m * p .size) (drop (i * p .size) given)) r image after
       → HasWritten p (i + m) a given (record { sectors = i + r .sectors; code = r .code }) image₀ after
   has-joined i m image after r w h =
       let x = writing p i a given (begun image₀) in
-      let b = beside p i m (a + i) (drop (i * p .size) given) x (begun image) (begun-beside i image x (w .sectors) (w .code) (w .image)) in
+      let b = beside p i m (further a i) (drop (i * p .size) given) x (begun image) (begun-beside i image x (w .sectors) (w .code) (w .image)) in
       rw (joined p m i a given (begun image₀) (sym (w .code)))
       (record { sectors = omega (arith, h .sectors, b .done); code = h .code ∙ sym (b .code); image = h .image ∙ sym (b .image) })
 
@@ -127,13 +129,13 @@ module _ (p : Params) (a : ℕ) (given image₀ : List ℕ) where
   has-stopped m k after r w n = rw (stopped p k m a given (begun image₀) refl (λ z. n (w .code ∙ z))) w
 
 -- ---- the loop: i sectors are written, one part behind the other
-pub record Writing (p : Params) (n a : ℕ) (given image₀ image : List ℕ) (i at : ℕ) : Type 0 where
+pub record Writing (p : Params) (n : ℕ) (a : Lba) (given image₀ image : List ℕ) (i at : ℕ) : Type 0 where
   pub most : i ≤ n
   pub place : at ≡ i * p .size
   pub len : length image ≡ length image₀
   pub is : HasWritten p i a given (record { sectors = i; code = 0 }) image₀ image
 
-module _ (p : Params) (n a : ℕ) (given image₀ : List ℕ) where
+module _ (p : Params) (n : ℕ) (a : Lba) (given image₀ : List ℕ) where
   pub writing-none : Writing p n a given image₀ image₀ 0 0
   unfolding writing begun
   writing-none = record {
@@ -157,8 +159,11 @@ module _ (p : Params) (n a : ℕ) (given image₀ : List ℕ) where
         omega (arith, w .place, add-mul i m (p .size), mul-le-mul-right (p .size) k)
 
     -- a part of m sectors is written
-    module _ (m : ℕ) (l : m ≤ n - i) (part : Done) (after : List ℕ)
-        (h : HasWritten p m (a + i) (take (at + m * p .size - at) (drop at given)) part image after) where
+    module _ (m : ℕ) (l : m ≤ n - i) (b : Lba) (eb : b ≡ further a i) (part : Done) (after : List ℕ)
+        (was : HasWritten p m b (take (at + m * p .size - at) (drop at given)) part image after) where
+      h : HasWritten p m (further a i) (take (at + m * p .size - at) (drop at given)) part image after
+      h = rw eb at was
+
       together : HasWritten p (i + m) a given (record { sectors = i + part .sectors; code = part .code }) image₀ after
       together =
           let wide : at + m * p .size - at ≡ m * p .size = omega arith in
@@ -171,7 +176,7 @@ module _ (p : Params) (n a : ℕ) (given image₀ : List ℕ) where
 
       pub writing-more : part .code ≡ 0 → length after ≡ length image → Writing p n a given image₀ after (i + part .sectors) (at + m * p .size)
       writing-more z la =
-          let e : part .sectors ≡ m = written-all p m (a + i) _ image after part h z in
+          let e : part .sectors ≡ m = written-all p m (further a i) _ image after part h z in
           record {
             most = omega (arith, w .most);
             place = rw (e, add-mul) (omega (arith, w .place));

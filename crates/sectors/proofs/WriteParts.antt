@@ -16,7 +16,7 @@ use Rattle.base.proofs.Parts.{length-part, splice-lent}
 use Rattle.geometry.specs.declared.params.Params.{Params}
 use Rattle.geometry.specs.declared.params.Lba.{Lba}
 use Rattle.geometry.specs.declared.params.Track.{Track}
-use Rattle.geometry.specs.Params.{trackCount, trackSize, trackStart, trackOf, sectorOf}
+use Rattle.geometry.specs.Params.{trackCount, trackSize, trackStart, trackOf, sectorOf, OnDrive, next}
 use Rattle.track.specs.declared.find.Where.the-variants.{On, Off}
 use Rattle.track.specs.Image.{Fits, trackBytes, withTrack, withData}
 use Rattle.track.specs.Find.{whereOf, slotUsed, sectorIn}
@@ -119,8 +119,8 @@ module _ (p : Params) (u : Track) (hu : u .0 < trackCount p) (x : Transfer) (f :
       abbrev sector : List ℕ
       sector = take (p .size) given
 
-      abbrev next : Transfer
-      next = writeSlot p sector x u k
+      abbrev after : Transfer
+      after = writeSlot p sector x u k
 
       below : k < p .sectors
       below = used-holds p s bytes k e .0
@@ -131,25 +131,25 @@ module _ (p : Params) (u : Track) (hu : u .0 < trackCount p) (x : Transfer) (f :
       with-long : length (withData p k sector bytes) ≡ trackSize p
       with-long = length-with-data p bytes long k sector below sector-long
 
-      next-fits : Fits p (next .image)
+      next-fits : Fits p (after .image)
       unfolding writeSlot
       next-fits = record {
         within = f .within;
         long = rw (length-with-track p (x .image) (f .long) u (withData p k sector bytes) hu with-long) (f .long);
       }
 
-      next-bytes : trackBytes p u (next .image) ≡ withData p k sector bytes
+      next-bytes : trackBytes p u (after .image) ≡ withData p k sector bytes
       unfolding writeSlot
       next-bytes = track-same p (x .image) (f .long) u (withData p k sector bytes) hu with-long
 
       -- the search goes on in the same track as before
-      next-where : (t : Track) → t .0 < trackCount p → whereOf p t (next .image) ≡ whereOf p t (x .image)
+      next-where : (t : Track) → t .0 < trackCount p → whereOf p t (after .image) ≡ whereOf p t (x .image)
       unfolding writeSlot
       next-where =
           where-same p _ (x .image) (omega (arith, f .within .sectors-some))
           (data-keeps p (x .image) u k sector (f .long) hu below sector-long)
 
-      run-again : withTrack p u (runWritten p m (suc s) (drop (p .size) given) (trackBytes p u (next .image))) (next .image)
+      run-again : withTrack p u (runWritten p m (suc s) (drop (p .size) given) (trackBytes p u (after .image))) (after .image)
           ≡ withTrack p u (runWritten p (suc m) s given bytes) (x .image)
       unfolding runWritten onSlot withTrack writeSlot
       run-again =
@@ -159,10 +159,10 @@ module _ (p : Params) (u : Track) (hu : u .0 < trackCount p) (x : Transfer) (f :
           (splice-again (trackStart p u) run (withData p k sector bytes) (x .image) (as-long ∙ sym with-long)
           (omega (arith, track-room p u (length (x .image)) hu (f .long))))
 
-      ran-hit : (y : Transfer) → WrittenAlong p m (suc s) u (drop (p .size) given) next y → WrittenAlong p (suc m) s u given x y
+      ran-hit : (y : Transfer) → WrittenAlong p m (suc s) u (drop (p .size) given) after y → WrittenAlong p (suc m) s u given x y
       unfolding runDone onSlot writeSlot
       ran-hit y r =
-          let kept : runDone p m (suc s) (trackBytes p u (next .image)) ≡ runDone p m (suc s) bytes =
+          let kept : runDone p m (suc s) (trackBytes p u (after .image)) ≡ runDone p m (suc s) bytes =
           ap (runDone p m (suc s)) next-bytes ∙ done-same p _ bytes (slot-kept p bytes long k sector below sector-long) m (suc s) in
           record {
             done = rw e (omega (arith, r .done, kept));
@@ -171,8 +171,8 @@ module _ (p : Params) (u : Track) (hu : u .0 < trackCount p) (x : Transfer) (f :
           }
 
 -- one run is the definition's steps
-runs : (p : Params) (t u : Track) → t .0 < trackCount p → u .0 < trackCount p → (m a s : ℕ) (given : List ℕ) (x : Transfer)
-    → Fits p (x .image) → x .code ≡ 0 → whereOf p t (x .image) ≡ On u → a ≡ t .0 * p .sectors + s → s + m ≤ p .sectors
+runs : (p : Params) (t u : Track) → t .0 < trackCount p → u .0 < trackCount p → (m : ℕ) (a : Lba) (s : ℕ) (given : List ℕ) (x : Transfer)
+    → Fits p (x .image) → x .code ≡ 0 → whereOf p t (x .image) ≡ On u → a .0 ≡ t .0 * p .sectors + s → s + m ≤ p .sectors
     → m * p .size ≤ length given → WrittenAlong p m s u given x (writing p m a given x)
 unfolding writing writeSlot
 runs p t u ht hu zero a s given x f z on ea l enough = ran-none p u hu x f s given z
@@ -182,35 +182,35 @@ runs p t u ht hu (suc m) a s given x f z on ea l enough =
     (ran-on p u hu x f m s given _ (slotUsed p s (trackBytes p u (x .image))) refl
     (λ k e.
     ran-hit p u hu x f m s given k e enough _
-    (runs p t u ht hu m (suc a) (suc s) (drop (p .size) given) (writeSlot p (take (p .size) given) x u k)
+    (runs p t u ht hu m (next a) (suc s) (drop (p .size) given) (writeSlot p (take (p .size) given) x u k)
     (next-fits p u hu x f m s given k e enough) refl (next-where p u hu x f m s given k e enough t ht ∙ on)
     (omega arith) (omega arith) (rest-long m (p .size) given enough))))
 
 -- ---- what is written of one track's sectors is what is promised
 module _ (p : Params) (a : Lba) (given image : List ℕ) (t : Track) (et : t ≡ trackOf p a) where
   -- the search ends at the track
-  pub part-off : (n code : ℕ) → whereOf p t image ≡ Off code → 1 ≤ n → HasWritten p n (a .0) given (record { sectors = 0; code = code }) image image
+  pub part-off : (n code : ℕ) → whereOf p t image ≡ Off code → 1 ≤ n → HasWritten p n a given (record { sectors = 0; code = code }) image image
   unfolding writing onward ended begun
   part-off zero code off h = absurd (omega arith)
-  part-off (suc n) code off h = rw (found-off p (a .0) image t et code off) (record { sectors = refl; code = refl; image = refl })
+  part-off (suc n) code off h = rw (found-off p a image t et code off) (record { sectors = refl; code = refl; image = refl })
 
   -- it goes on in track u
-  module _ (f : Fits p image) (ha : a .0 < trackCount p * p .sectors) (u : Track) (on : whereOf p t image ≡ On u)
+  module _ (f : Fits p image) (ha : OnDrive p a) (u : Track) (on : whereOf p t image ≡ On u)
       (n s : ℕ) (es : s ≡ sectorOf p a) (l : s + n ≤ p .sectors) (lg : length given ≡ n * p .size) where
     in-drive : u .0 < trackCount p
     in-drive = where-in p t image (whereOf p t image) refl (track-below p a t (f .within) ha et) u on
 
-    part-ran : WrittenAlong p n s u given (begun image) (writing p n (a .0) given (begun image))
+    part-ran : WrittenAlong p n s u given (begun image) (writing p n a given (begun image))
     unfolding begun
     part-ran =
-        runs p t u (track-below p a t (f .within) ha et) in-drive n (a .0) s given (begun image) f refl on
-        (address-of p t s (a .0) et es) l (omega arith)
+        runs p t u (track-below p a t (f .within) ha et) in-drive n a s given (begun image) f refl on
+        (address-of p t s a et es) l (omega arith)
 
     -- the track was lent for the run, and changed
     pub part-on : (start end sectors : ℕ) (after : List ℕ) (r : Done) → start ≡ trackStart p u → end ≡ trackStart p u + trackSize p
         → (sectors ≡ runDone p n s (take (end - start) (drop start image))) × (after ≡ runWritten p n s given (take (end - start) (drop start image)))
         → (r .sectors ≡ sectors) × (r .code ≡ pick (ltb sectors n) 0x14 0)
-        → HasWritten p n (a .0) given r image (putMid start (end - start) image after)
+        → HasWritten p n a given r image (putMid start (end - start) image after)
     unfolding begun withTrack
     part-on start end sectors after r e₀ e₁ run done =
         let lent : take (end - start) (drop start image) ≡ trackBytes p u image = track-lent p u image start end e₀ e₁ in

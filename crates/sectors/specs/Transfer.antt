@@ -2,9 +2,10 @@
 use Prim.Native.Nat.{ℕ, zero, suc}
 use mathlib.Core.List.{List, [], _++_}
 use lib.ListN.{take, drop}
+use Rattle.geometry.specs.declared.params.Lba.{Lba}
 use Rattle.geometry.specs.declared.params.Track.{Track}
 use Rattle.geometry.specs.declared.params.Params.{Params}
-use Rattle.geometry.specs.Params.{trackOf, sectorOf}
+use Rattle.geometry.specs.Params.{trackOf, sectorOf, next}
 use Rattle.track.specs.Image.{trackBytes, withTrack, slotData, withData}
 use Rattle.track.specs.Find.{Sector, Slot, Fault, sectorFound}
 
@@ -48,17 +49,17 @@ onward x next (Fault code) = ended code x
 onward x next (Slot t k) = next t k
 
 -- Finding the sector at address a.
-unfoldable pub found : Params → (a : ℕ) → (image : List ℕ) → Sector
-found p a image = sectorFound p (trackOf p (record { 0 = a })) (sectorOf p (record { 0 = a })) image
+unfoldable pub found : Params → Lba → (image : List ℕ) → Sector
+found p a image = sectorFound p (trackOf p a) (sectorOf p a) image
 
 -- n more sectors, from address a on.
-unfoldable pub reading : Params → (n a : ℕ) → Transfer → Transfer
+unfoldable pub reading : Params → (n : ℕ) → Lba → Transfer → Transfer
 reading p zero a x = x
 reading p (suc n) a x =
-    onward x (λ t k. reading p n (suc a) (readSlot p x t k)) (found p a (x .image))
+    onward x (λ t k. reading p n (next a) (readSlot p x t k)) (found p a (x .image))
 
-unfoldable pub writing : Params → (n a : ℕ) → (given : List ℕ) → Transfer → Transfer
+unfoldable pub writing : Params → (n : ℕ) → Lba → (given : List ℕ) → Transfer → Transfer
 writing p zero a given x = x
 writing p (suc n) a given x =
-    onward x (λ t k. writing p n (suc a) (drop (p .size) given) (writeSlot p (take (p .size) given) x t k))
+    onward x (λ t k. writing p n (next a) (drop (p .size) given) (writeSlot p (take (p .size) given) x t k))
     (found p a (x .image))

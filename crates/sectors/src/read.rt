@@ -10,14 +10,14 @@ use track::find::where_is;
 ghost use mathlib.Core.Path.{_≡_};
 ghost use Prim.Native.Nat.{_+_, _*_, _≤_, _<_};
 ghost use lib.ListN.{length};
-ghost use Rattle.geometry.specs.Params.{trackCount, sectorOf};
+ghost use Rattle.geometry.specs.Params.{sectorOf, addressCount, OnDrive};
 ghost use Rattle.track.specs.Image.{Fits};
 ghost use Rattle.sectors.specs.Promises.{HasRead};
 
 // Reads n sectors of one track from an address on, to their places.
 fn read_part(image: &[u8], p: Params, a: Lba, n: usize, places: &mut [u8]) -> Done
-    requires { ⌜ Fits p (now image) × (a .0 < trackCount p * p .sectors) × (1 ≤ n) × (sectorOf p a + n ≤ p .sectors) × (length (now places) ≡ n * p .size) ⌝ }
-    ensures { λ r. ⌜ HasRead p n (a .0) (now (image .entry)) r (now (places .entry)) (now (places .exit)) ⌝ }
+    requires { ⌜ Fits p (now image) × OnDrive p a × (1 ≤ n) × (sectorOf p a + n ≤ p .sectors) × (length (now places) ≡ n * p .size) ⌝ }
+    ensures { λ r. ⌜ HasRead p n a (now (image .entry)) r (now (places .entry)) (now (places .exit)) ⌝ }
 {
     let place = where_is(image, p, p.track_of(a));
     match place {
@@ -37,15 +37,14 @@ fn read_part(image: &[u8], p: Params, a: Lba, n: usize, places: &mut [u8]) -> Do
 
 // n sectors in address order to the front of the data area, track after track; the first failing one ends it.
 pub fn read_sectors(image: &[u8], p: Params, a: Lba, n: usize, area: &mut [u8]) -> Done
-    requires { ⌜ Fits p (now image) × (a .0 + n ≤ trackCount p * p .sectors) × (n * p .size ≤ length (now area)) ⌝ }
-    ensures { λ r. ⌜ HasRead p n (a .0) (now (image .entry)) r (now (area .entry)) (now (area .exit)) ⌝ }
+    requires { ⌜ Fits p (now image) × (a .0 + n ≤ addressCount p) × (n * p .size ≤ length (now area)) ⌝ }
+    ensures { λ r. ⌜ HasRead p n a (now (image .entry)) r (now (area .entry)) (now (area .exit)) ⌝ }
 {
     let size = p.size;
-    let first = a.0;
     let mut i: usize = 0;
     let mut at: usize = 0;
     while i < n {
-        let here = Lba(first + i as u32);
+        let here = a.further(i);
         let m = sectors_here(p, here, n - i);
         let end = at + m * size;
         let part = read_part(image, p, here, m, &mut area[at..end]);

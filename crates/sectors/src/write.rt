@@ -10,14 +10,14 @@ use track::find::where_is;
 ghost use mathlib.Core.Path.{_≡_};
 ghost use Prim.Native.Nat.{_+_, _*_, _≤_, _<_};
 ghost use lib.ListN.{length};
-ghost use Rattle.geometry.specs.Params.{trackCount, sectorOf};
+ghost use Rattle.geometry.specs.Params.{sectorOf, addressCount, OnDrive};
 ghost use Rattle.track.specs.Image.{Fits};
 ghost use Rattle.sectors.specs.Promises.{HasWritten};
 
 // Writes n sectors of one track from an address on.
 fn write_part(image: &mut [u8], p: Params, a: Lba, n: usize, given: &[u8]) -> Done
-    requires { ⌜ Fits p (now image) × (a .0 < trackCount p * p .sectors) × (1 ≤ n) × (sectorOf p a + n ≤ p .sectors) × (length (now given) ≡ n * p .size) ⌝ }
-    ensures { λ r. ⌜ HasWritten p n (a .0) (now (given .entry)) r (now (image .entry)) (now (image .exit)) ⌝ }
+    requires { ⌜ Fits p (now image) × OnDrive p a × (1 ≤ n) × (sectorOf p a + n ≤ p .sectors) × (length (now given) ≡ n * p .size) ⌝ }
+    ensures { λ r. ⌜ HasWritten p n a (now (given .entry)) r (now (image .entry)) (now (image .exit)) ⌝ }
 {
     let place = where_is(image, p, p.track_of(a));
     match place {
@@ -37,15 +37,14 @@ fn write_part(image: &mut [u8], p: Params, a: Lba, n: usize, given: &[u8]) -> Do
 
 // n sectors in address order from the data given, track after track; the first failing one ends it.
 pub fn write_sectors(image: &mut [u8], p: Params, a: Lba, n: usize, given: &[u8]) -> Done
-    requires { ⌜ Fits p (now image) × (a .0 + n ≤ trackCount p * p .sectors) × (n * p .size ≤ length (now given)) ⌝ }
-    ensures { λ r. ⌜ HasWritten p n (a .0) (now (given .entry)) r (now (image .entry)) (now (image .exit)) ⌝ }
+    requires { ⌜ Fits p (now image) × (a .0 + n ≤ addressCount p) × (n * p .size ≤ length (now given)) ⌝ }
+    ensures { λ r. ⌜ HasWritten p n a (now (given .entry)) r (now (image .entry)) (now (image .exit)) ⌝ }
 {
     let size = p.size;
-    let first = a.0;
     let mut i: usize = 0;
     let mut at: usize = 0;
     while i < n {
-        let here = Lba(first + i as u32);
+        let here = a.further(i);
         let m = sectors_here(p, here, n - i);
         let end = at + m * size;
         let part = write_part(image, p, here, m, &given[at..end]);

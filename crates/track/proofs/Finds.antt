@@ -7,8 +7,8 @@ use native.Mathlib.Omega.{arith}
 use native.Mathlib.Nat.{suc-mul}
 use native.Mathlib.Numerals.{add-one}
 use lib.ListN.{take, drop}
-use lib.Dec.{eqb}
-use borrow.Author.Tests.{lt-ltb, le-ltb, ltb-true, eq-eqb, ne-eqb, not-true, not-false}
+use lib.Dec.{eqb, ltb}
+use borrow.Author.Tests.{ltb-true, eq-eqb, ne-eqb, not-true, not-false}
 use Rattle.base.specs.Pick.{pick}
 use Rattle.base.specs.Part.{part}
 use Rattle.base.proofs.Parts.{part-lent, cell-in}
@@ -24,28 +24,28 @@ use Rattle.track.specs.Find.{takenBy, whereBy, whereOf}
 
 -- ---- whether a track is taken by another, test by test
 module _ (p : Params) (t u : Track) (id : Id) where
-  pub taken-past : trackCount p ≤ u .0 → false ≡ takenBy p t u id
+  pub taken-past : ltb (u .0) (trackCount p) ≡ false → false ≡ takenBy p t u id
   unfolding takenBy
-  taken-past h = simp (le-ltb _ _ h)
+  taken-past h = simp h
 
-  module _ (h : u .0 < trackCount p) where
+  module _ (h : ltb (u .0) (trackCount p) ≡ true) where
     pub taken-unmarked : (id .mark ≡ 0xA1 → ⊥) → false ≡ takenBy p t u id
     unfolding takenBy
-    taken-unmarked m = simp (lt-ltb _ _ h, ne-eqb _ _ m)
+    taken-unmarked m = simp (h, ne-eqb _ _ m)
 
     module _ (m : id .mark ≡ 0xA1) (own : Bool) (eo : own ≡ ownId p u id) where
       pub taken-other : not own ≡ true → false ≡ takenBy p t u id
       unfolding takenBy
-      taken-other o = simp (lt-ltb _ _ h, eq-eqb _ _ m, sym eo ∙ not-true own o)
+      taken-other o = simp (h, eq-eqb _ _ m, sym eo ∙ not-true own o)
 
       module _ (o : not own ≡ false) where
         pub taken-flag : (id .flag ≡ 3 → ⊥) → false ≡ takenBy p t u id
         unfolding takenBy
-        taken-flag f = simp (lt-ltb _ _ h, eq-eqb _ _ m, sym eo ∙ not-false own o, ne-eqb _ _ f)
+        taken-flag f = simp (h, eq-eqb _ _ m, sym eo ∙ not-false own o, ne-eqb _ _ f)
 
         pub taken-partner : id .flag ≡ 3 → eqb (id .partner .0) (t .0) ≡ takenBy p t u id
         unfolding takenBy
-        taken-partner f = simp (lt-ltb _ _ h, eq-eqb _ _ m, sym eo ∙ not-false own o, eq-eqb _ _ f)
+        taken-partner f = simp (h, eq-eqb _ _ m, sym eo ∙ not-false own o, eq-eqb _ _ f)
 
 left-true : (a b : Bool) → (a && b) ≡ true → a ≡ true
 left-true true b e = refl

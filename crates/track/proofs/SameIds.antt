@@ -5,14 +5,14 @@ use Prim.Native.Nat.{ℕ, _≤_, _<_}
 use native.Mathlib.Omega.{arith}
 use native.Mathlib.Decide.{decLt, ℕ-discrete}
 use lib.ListN.{length}
+use borrow.Author.Tests.{le-ltb}
 use Rattle.geometry.specs.declared.params.Params.{Params}
 use Rattle.geometry.specs.declared.params.Track.{Track}
-use Rattle.geometry.specs.Params.{trackCount, trackSize, imageLength}
+use Rattle.geometry.specs.Params.{trackCount, trackSize, imageLength, track}
 use Rattle.track.specs.declared.id.Id.{Id}
 use Rattle.track.specs.declared.find.Where.{Where}
 use Rattle.track.specs.declared.find.Where.the-variants.{On, Off}
 use Rattle.track.specs.Id.{idIn, ownId}
-use Rattle.track.specs.State.{track}
 use Rattle.track.specs.Image.{trackBytes, withTrack, slotId, withData, firstId}
 use Rattle.track.specs.Find.{takenBy, whereBy, whereOf, slotUsed, sectorIn, sectorFrom, sectorFound}
 use Rattle.track.proofs.Images.{length-track, track-same, track-other, length-with-data, id-kept}
@@ -34,7 +34,9 @@ module _ (p : Params) (a b : List ℕ) (some-sector : 0 < p .sectors) (same : Sa
     where
       by : Dec (u .0 < trackCount p) → takenBy p t u (firstId p u a) ≡ takenBy p t u (firstId p u b)
       by (yes l) = ap (takenBy p t u) (first-id-same u l)
-      by (no l) = sym (taken-past p t u (firstId p u a) (omega arith)) ∙ taken-past p t u (firstId p u b) (omega arith)
+      by (no l) =
+          let past = le-ltb (u .0) (trackCount p) (omega arith) in
+          sym (taken-past p t u (firstId p u a) past) ∙ taken-past p t u (firstId p u b) past
 
   pub where-same : (t : Track) → t .0 < trackCount p → whereOf p t a ≡ whereOf p t b
   unfolding whereOf

@@ -6,10 +6,10 @@ use lib.ListN.{getD}
 use lib.Dec.{eqb}
 use Rattle.geometry.specs.declared.params.Params.{Params}
 use Rattle.geometry.specs.declared.params.Track.{Track}
-use Rattle.geometry.specs.Params.{cylinderOf, headOf}
+use Rattle.geometry.specs.Params.{cylinderOf, headOf, track}
 use Rattle.track.specs.declared.id.Id.{Id}
 use Rattle.track.specs.declared.state.State.{State}
-use Rattle.track.specs.State.{track, flagOf, partnerOf}
+use Rattle.track.specs.State.{flagOf, partnerOf}
 
 -- A1h, cylinder (high, low), head, sector, flag, partner track (high, low).
 unfoldable pub idBytes : Id → List ℕ

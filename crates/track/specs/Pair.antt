@@ -7,12 +7,11 @@ use Rattle.base.specs.Pick.{pick}
 use Rattle.base.specs.First.{someBelow}
 use Rattle.geometry.specs.declared.params.Params.{Params}
 use Rattle.geometry.specs.declared.params.Track.{Track}
-use Rattle.geometry.specs.Params.{trackCount}
+use Rattle.geometry.specs.Params.{trackCount, track}
 use Rattle.track.specs.declared.id.Id.{Id}
 use Rattle.track.specs.declared.state.State.{State}
 use Rattle.track.specs.declared.state.State.the-variants.{Sound, Bad, Moved, Taken}
 use Rattle.track.specs.Id.{ownId}
-use Rattle.track.specs.State.{track}
 use Rattle.track.specs.Image.{firstId}
 
 -- Moved or taken when slot 0 has A1h, its own cylinder and head, and flag 2 or 3; bad likewise with flag 1.

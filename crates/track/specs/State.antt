@@ -2,12 +2,9 @@
 use Prim.Native.Nat.{ℕ}
 use mathlib.Core.Bool.{Bool, true, false}
 use Rattle.geometry.specs.declared.params.Track.{Track}
+use Rattle.geometry.specs.Params.{track}
 use Rattle.track.specs.declared.state.State.{State}
 use Rattle.track.specs.declared.state.State.the-variants.{Sound, Bad, Moved, Taken}
-
--- track number k
-abbrev pub track : ℕ → Track
-track k = record { 0 = k }
 
 -- Flag 0 sound, 1 bad, 2 moved to the partner, 3 taken by the partner.
 unfoldable pub flagOf : State → ℕ

@@ -22,7 +22,7 @@ fn is_taken_by(image: &[u8], p: Params, t: Track, u: Track) -> bool
     requires { ⌜ Fits p (now image) ⌝ }
     ensures { λ r. ⌜ r ≡ takenBy p t u (firstId p u (now (image .entry))) ⌝ }
 {
-    if p.tracks() <= u.0 {
+    if !p.has_track(u) {
         return false;
     }
     let id = first_id(image, p, u);
@@ -36,7 +36,7 @@ fn is_taken_by(image: &[u8], p: Params, t: Track, u: Track) -> bool
     if id.flag != 3 {
         return false;
     }
-    partner.0 == t.0
+    partner.is_same(t)
 }
 
 // The decision by slot 0.

@@ -52,8 +52,8 @@ pub fn id_bytes(id: Id) -> [u8; 8]
         id.head,
         id.sector,
         id.flag,
-        (partner.0 / 256) as u8,
-        (partner.0 % 256) as u8,
+        partner.high(),
+        partner.low(),
     ]
 }
 
@@ -68,7 +68,7 @@ fn read_id(slot: &[u8]) -> Id
         head: slot[3],
         sector: slot[4],
         flag: slot[5],
-        partner: Track(two_bytes(slot[6], slot[7]) as u32),
+        partner: Track::numbered(two_bytes(slot[6], slot[7]) as u32),
     }
 }
 

@@ -48,10 +48,10 @@ pub fn state_of(image: &[u8], p: Params, t: Track) -> State
 fn one_below(s: Track, t: Track, u: Track) -> bool
     ensures { λ r. ⌜ r ≡ oneBelow s t u ⌝ }
 {
-    if t.0 < s.0 {
-        return s.0 <= u.0;
+    if t.is_before(s) {
+        return !u.is_before(s);
     }
-    u.0 < s.0
+    u.is_before(s)
 }
 
 // Whether a format from track s on would free one of a pair and not the other.
@@ -72,12 +72,13 @@ pub fn splits_pair(image: &[u8], p: Params, s: Track) -> bool
     ensures { λ r. ⌜ r ≡ pairSplit p s (now (image .entry)) ⌝ }
 {
     let count = p.tracks();
-    let mut t = 0;
-    while t < count {
-        if is_split(s, Track(t), state_of(image, p, Track(t))) {
+    let mut k = 0;
+    while k < count {
+        let t = Track::numbered(k);
+        if is_split(s, t, state_of(image, p, t)) {
             return true;
         }
-        t += 1;
+        k += 1;
     }
     false
 }

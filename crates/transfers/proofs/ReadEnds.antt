@@ -7,7 +7,7 @@ use native.Mathlib.Nat.{mul-le-mul}
 use lib.ListN.{length}
 use Rattle.base.specs.Part.{splice}
 use Rattle.geometry.specs.declared.params.Params.{Params}
-use Rattle.geometry.specs.Params.{trackCount}
+use Rattle.geometry.specs.Params.{addressCount}
 use Rattle.track.specs.Image.{Fits}
 use Rattle.sectors.specs.Transfer.{begun, reading}
 use Rattle.sectors.specs.declared.transfer.Done.{Done}
@@ -29,9 +29,9 @@ bytes-most k size h l = mul-le-mul {n₂ = 256} {m₂ = 512} h l
 
 -- ---- 08 Read
 module _ (b : Block) (p : Params) (area₀ area image : List ℕ) (n : ℕ) (done : Done) (fits : Fits p image)
-    (h : b .address .0 + countOf b ≤ trackCount p * p .sectors) (en : n ≡ countOf b) (m : HasRead p n (b .address .0) image done area₀ area) where
-  has-read : Handed p n image (reading p n (b .address .0) (begun image))
-  has-read = reading-handed p image fits n (b .address .0) (omega arith)
+    (h : b .address .0 + countOf b ≤ addressCount p) (en : n ≡ countOf b) (m : HasRead p n (b .address) image done area₀ area) where
+  has-read : Handed p n image (reading p n (b .address) (begun image))
+  has-read = reading-handed p image fits n (b .address) (omega arith)
 
   pub read-most : done .sectors ≤ n
   read-most = rw (m .sectors) (has-read .most)
@@ -44,7 +44,7 @@ module _ (b : Block) (p : Params) (area₀ area image : List ℕ) (n : ℕ) (don
       → leftNow r buffer area image ≡ leftBy (read b p entry buffer₀ image) area₀
   unfolding read leftBy
   read-leaves entry buffer₀ buffer r eb er =
-      let x = reading p n (b .address .0) (begun image) in
+      let x = reading p n (b .address) (begun image) in
       let long : done .sectors * p .size ≡ length (x .handed) = rw (m .sectors) (sym (has-read .long)) in
       let last : lastOf (done .sectors) (p .size) area ≡ x .last =
       rw (m .sectors, m .area) (last-front (x .done) (p .size) (x .handed) area₀ (omega (arith, has-read .long)) ∙ sym (last-is _ _ _ _ (has-read .last-none) (has-read .last))) in

@@ -8,7 +8,9 @@ use lib.ListN.{length, take, drop}
 use lib.Seq.{drop-drop}
 use Rattle.base.specs.Part.{part, splice}
 use Rattle.geometry.specs.declared.params.Params.{Params}
+use Rattle.geometry.specs.declared.params.Lba.{Lba}
 use Rattle.geometry.specs.declared.params.Track.{Track}
+use Rattle.geometry.specs.Params.{next}
 use Rattle.sectors.specs.Transfer.{Transfer, begun, ended, writeSlot, found, writing}
 use Rattle.sectors.specs.declared.transfer.Done.{Done}
 use Rattle.sectors.specs.Promises.{HasWritten}
@@ -43,7 +45,7 @@ module _ (p : Params) (given : List ℕ) where
     unfolding writeSlot lastOf part
     taken-slot u k rest e = record { code = omega arith; none = w .none; last = ap (take (p .size)) e }
 
-  taken-on : (m a : ℕ) (rest : List ℕ) (x : Transfer) → Taken p given x → rest ≡ drop (x .done * p .size) given
+  taken-on : (m : ℕ) (a : Lba) (rest : List ℕ) (x : Transfer) → Taken p given x → rest ≡ drop (x .done * p .size) given
       → Taken p given (writing p m a rest x)
   unfolding writing writeSlot
   taken-on zero a rest x w er = w
@@ -53,9 +55,9 @@ module _ (p : Params) (given : List ℕ) where
       (λ u k e.
       let past : drop (p .size) rest ≡ drop (suc (x .done) * p .size) given =
       ap (drop (p .size)) er ∙ drop-drop (p .size) (x .done * p .size) given ∙ rw suc-mul refl in
-      taken-on m (suc a) (drop (p .size) rest) _ (taken-slot x w u k rest er) past)
+      taken-on m (next a) (drop (p .size) rest) _ (taken-slot x w u k rest er) past)
 
-module _ (p : Params) (n a : ℕ) (given image₀ image : List ℕ) (done : Done) (w : HasWritten p n a given done image₀ image) where
+module _ (p : Params) (n : ℕ) (a : Lba) (given image₀ image : List ℕ) (done : Done) (w : HasWritten p n a given done image₀ image) where
   has-taken : Taken p given (writing p n a given (begun image₀))
   unfolding begun
   has-taken = taken-on p given n a given (begun image₀) (taken-none p given image₀) (rw zero-mul refl)
@@ -65,13 +67,13 @@ module _ (p : Params) (n a : ℕ) (given image₀ image : List ℕ) (done : Done
 
 -- ---- 0Ah Write
 module _ (b : Block) (p : Params) (entry : Drive) (given image₀ image before after : List ℕ) (n : ℕ) (done : Done) (r : Ending) where
-  pub write-leaves : n ≡ countOf b → HasWritten p n (b .address .0) given done image₀ image
+  pub write-leaves : n ≡ countOf b → HasWritten p n (b .address) given done image₀ image
       → after ≡ splice 0 (lastOf (done .sectors) (p .size) given) before → r ≡ transferEnding b (done .sectors) (done .code) 0 entry
       → effect r after [] image ≡ write b p given entry before image₀
   unfolding write
   write-leaves en w ea er =
-      let x = writing p n (b .address .0) given (begun image₀) in
-      let h = has-taken p n (b .address .0) given image₀ image done w in
+      let x = writing p n (b .address) given (begun image₀) in
+      let h = has-taken p n (b .address) given image₀ image done w in
       let none : 0 ≡ length (x .handed) = sym (ap length (h .none)) in
       let last : lastOf (done .sectors) (p .size) given ≡ x .last = rw (w .sectors) (sym (h .last)) in
       let is : effect r after (x .handed) (x .image) ≡ transferred b entry before x =

@@ -2,7 +2,6 @@
 use base::bytes::put_front;
 use endings::ending::failed;
 use endings::ending::good;
-use geometry::params::Lba;
 use model::block::Block;
 use model::record::Drive;
 use model::record::Ending;
@@ -44,7 +43,7 @@ pub fn finish(entry: Drive, b: Block, done: Done, bytes: u32) -> Ending
         drive,
         drive,
         done.code,
-        Lba(first.0 + sectors as u32),
+        first.further(sectors),
         sectors as u16,
         bytes,
     )

@@ -8,8 +8,7 @@ use Rattle.base.specs.Byte.{byte}
 use Rattle.geometry.specs.declared.params.Lba.{Lba}
 use Rattle.geometry.specs.declared.params.Track.{Track}
 use Rattle.geometry.specs.declared.params.Params.{Params}
-use Rattle.geometry.specs.Params.{trackOf}
-use Rattle.track.specs.State.{track}
+use Rattle.geometry.specs.Params.{trackOf, track}
 use Rattle.track.specs.State.{isBad as badState, isMoved as movedState, isTaken as takenState}
 use Rattle.model.specs.declared.verdict.Verdict.{Verdict}
 use Rattle.model.specs.declared.verdict.Verdict.the-variants.{Refused, Faulty, Passed}

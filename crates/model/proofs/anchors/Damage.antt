@@ -8,12 +8,14 @@ use Rattle.base.specs.Pick.{pick}
 use Rattle.base.specs.Part.{part, splice, rows}
 use Rattle.base.specs.First.{firstFrom, firstBelow, isSome, someBelow, everyBelow}
 use Rattle.base.specs.Same.{sameBytes}
+use Rattle.geometry.specs.declared.params.Lba.{Lba}
 use Rattle.geometry.specs.declared.params.Params.{Params}
+use Rattle.geometry.specs.Params.{track}
 use Rattle.interleave.specs.Layout.{emptyFrom, put, place, laid, layoutOf}
 use Rattle.track.specs.declared.state.State.{State}
 use Rattle.track.specs.declared.state.State.the-variants.{Sound, Bad, Moved, Taken}
 use Rattle.track.specs.Id.{idBytes, idIn, idFor, ownId, withSector}
-use Rattle.track.specs.State.{track, flagOf, partnerOf}
+use Rattle.track.specs.State.{flagOf, partnerOf}
 use Rattle.track.specs.Image.{trackBytes, withTrack, slotId, slotData, withData, firstId}
 use Rattle.track.specs.Find.{Sector, Slot, Fault, takenBy, whereBy, whereOf, holds, slotUsed, sectorIn, sectorFrom, sectorFound}
 use Rattle.track.specs.Pair.{stateBy, stateOf, oneBelow, splits, pairSplit}
@@ -139,14 +141,17 @@ unfolding p slot whole hurt doubled finds duplicates found-in sectorFound sector
     trackBytes slotId part firstBelow firstFrom pick
 finding-first = refl
 
+lba : ℕ → Lba
+lba a = record { 0 = a }
+
 -- a Write changes the first of two, on the track itself and on the partner, and a Read then hands it over
-one-slot : (writing p 1 0 (7 ∷ []) (begun doubled) .image ≡ hurt 0 0 8 7 doubled)
-    × (writing p 1 8 (7 ∷ []) (begun doubled) .image ≡ hurt 3 1 8 7 doubled)
-    × (reading p 1 8 (begun (hurt 3 1 8 7 doubled)) .handed ≡ 7 ∷ [])
+one-slot : (writing p 1 (lba 0) (7 ∷ []) (begun doubled) .image ≡ hurt 0 0 8 7 doubled)
+    × (writing p 1 (lba 8) (7 ∷ []) (begun doubled) .image ≡ hurt 3 1 8 7 doubled)
+    × (reading p 1 (lba 8) (begun (hurt 3 1 8 7 doubled)) .handed ≡ 7 ∷ [])
     -- up to a bad track; then a moved track's, on its partner
-    × (writing p 3 2 (7 ∷ 8 ∷ 9 ∷ []) (begun whole) .image ≡ hurt 0 1 8 7 whole)
-    × (writing p 3 6 (7 ∷ 8 ∷ 9 ∷ []) (begun whole) .image ≡ hurt 3 0 8 7 (hurt 3 1 8 9 (hurt 3 2 8 8 whole)))
-unfolding p slot whole hurt doubled sectorFound sectorFrom sectorIn slotUsed holds whereOf whereBy takenBy ownId firstId idIn
+    × (writing p 3 (lba 2) (7 ∷ 8 ∷ 9 ∷ []) (begun whole) .image ≡ hurt 0 1 8 7 whole)
+    × (writing p 3 (lba 6) (7 ∷ 8 ∷ 9 ∷ []) (begun whole) .image ≡ hurt 3 0 8 7 (hurt 3 1 8 9 (hurt 3 2 8 8 whole)))
+unfolding p slot whole hurt doubled lba sectorFound sectorFrom sectorIn slotUsed holds whereOf whereBy takenBy ownId firstId idIn
     trackBytes slotId part firstBelow firstFrom pick reading readSlot slotData writing writeSlot onward found begun ended withTrack withData splice
 one-slot = (refl, refl, refl, refl, refl)
 

@@ -13,13 +13,13 @@ use Rattle.geometry.specs.declared.params.Params.{Params}
 use Rattle.geometry.specs.declared.medium.Medium.the-variants.{HardDisk}
 use Rattle.geometry.specs.declared.config.Setting.{Setting}
 use Rattle.geometry.specs.declared.config.Setting.the-variants.{Valid, Invalid}
-use Rattle.geometry.specs.Params.{imageLength, trackCount, trackOf, cylinderOf, headOf, sectorOf}
+use Rattle.geometry.specs.Params.{imageLength, trackCount, trackOf, cylinderOf, headOf, sectorOf, track}
 use Rattle.geometry.specs.Medium.{mediumOf, isFloppy, isIn, rangesOf}
 use Rattle.geometry.specs.Config.{sizeFor, fittedTo, fieldsIn, settingBy, settingOf, isValid}
 use Rattle.interleave.specs.Layout.{emptyFrom, put, place, laid, layoutOf}
 use Rattle.track.specs.declared.state.State.the-variants.{Moved, Taken}
 use Rattle.track.specs.Id.{idBytes, idIn, idFor, ownId, withSector}
-use Rattle.track.specs.State.{track, flagOf, partnerOf}
+use Rattle.track.specs.State.{flagOf, partnerOf}
 use Rattle.track.specs.Image.{trackBytes, withTrack, slotId, firstId}
 use Rattle.track.specs.Pair.{stateBy, stateOf, oneBelow, splits, pairSplit}
 use Rattle.formatter.specs.Format.{slotMade, slotsMade, formatted}
@@ -122,7 +122,7 @@ examples :
     × (idBytes (idFor two (track 5) (Taken (track 3)) 0) ≡ 0xA1 ∷ 0x00 ∷ 0x02 ∷ 0x01 ∷ 0x00 ∷ 0x03 ∷ 0x00 ∷ 0x03 ∷ []))
     -- (9) Then Format Drive from track 4 is 1Dh; from 3 or 6 it runs. The machine says the same.
     × ((ends (formatFrom 4) ≡ 2 ∷ 0x9D ∷ []) × (ends (formatFrom 3) ≡ 0 ∷ 0 ∷ []) × (ends (formatFrom 6) ≡ 0 ∷ 0 ∷ [])
-    × (someParted kinds 4 (trackCount two) ≡ true) × (someParted kinds 3 (trackCount two) ≡ false) × (someParted kinds 6 (trackCount two) ≡ false))
+    × (someParted kinds (track 4) (trackCount two) ≡ true) × (someParted kinds (track 3) (trackCount two) ≡ false) × (someParted kinds (track 6) (trackCount two) ≡ false))
     -- (10) Drive 1, address 20h past the end: sense A1 20 00 20.
     × (asked .area ≡ 0xA1 ∷ 0x20 ∷ 0x00 ∷ 0x20 ∷ [])
 unfolding InSlot config lengthOf lengthFor one block four address two moved controller formatFrom ends kinds sought asked

@@ -11,10 +11,11 @@ use Rattle.base.specs.First.{firstFrom, firstBelow, isSome, someBelow}
 use Rattle.geometry.specs.declared.params.Params.{Params}
 use Rattle.geometry.specs.declared.config.Setting.the-variants.{Valid}
 use Rattle.geometry.specs.Medium.{mediumOf, isFloppy}
+use Rattle.geometry.specs.Params.{track}
 use Rattle.interleave.specs.Layout.{emptyFrom, put, place, laid, layoutOf}
 use Rattle.track.specs.declared.state.State.the-variants.{Bad}
 use Rattle.track.specs.Id.{idBytes, idIn, idFor, ownId, withSector}
-use Rattle.track.specs.State.{track, flagOf, partnerOf, isBad, isMoved, isTaken}
+use Rattle.track.specs.State.{flagOf, partnerOf, isBad, isMoved, isTaken}
 use Rattle.track.specs.Image.{trackBytes, withTrack, slotId, firstId}
 use Rattle.track.specs.Pair.{stateBy, stateOf, splits, pairSplit}
 use Rattle.formatter.specs.Format.{slotMade, slotsMade, stepped, afterSteps, formatted, soundFrom}

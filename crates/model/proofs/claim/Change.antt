@@ -1,5 +1,5 @@
 -- Some tracks made anew, the others kept: the one law behind formats and assignments.
-use Prim.Native.Nat.{ℕ, _*_, _≤_, _<_}
+use Prim.Native.Nat.{ℕ, _≤_, _<_}
 use mathlib.Core.Path.{_≡_, refl, sym, ap, subst, _∙_}
 use mathlib.Core.Logic.{_⊎_, inl, inr}
 use mathlib.Core.Bool.{Bool, true, false, _||_, true≢false, false≢true}
@@ -12,7 +12,7 @@ use Rattle.base.proofs.Bools.{or-off}
 use Rattle.geometry.specs.declared.params.Lba.{Lba}
 use Rattle.geometry.specs.declared.params.Track.{Track}
 use Rattle.geometry.specs.declared.params.Params.{Params}
-use Rattle.geometry.specs.Params.{Within, trackCount, trackOf, sectorOf}
+use Rattle.geometry.specs.Params.{Within, trackCount, trackOf, sectorOf, OnDrive}
 use Rattle.geometry.proofs.Addresses.{same-track, track-in, sector-in}
 use Rattle.interleave.specs.Layout.{layoutOf}
 use Rattle.interleave.proofs.Slots.{slotOf, slot-lt}
@@ -33,7 +33,7 @@ pub record TrackMirrors (p : Params) (u : Disk) (image : List ℕ) (t : Track) :
   pub stated : u .kind t ≡ stateless → ⊥
   pub moves : (v : Track) → u .kind t ≡ moved v → Paired p (u .kind) (u .inter) t v (taken t)
   pub takes : (v : Track) → u .kind t ≡ taken v → Paired p (u .kind) (u .inter) t v (moved t)
-  pub kept : (a : Lba) → a .0 < trackCount p * p .sectors → trackOf p a ≡ t → isHeld (u .kind t) ≡ true
+  pub kept : (a : Lba) → OnDrive p a → trackOf p a ≡ t → isHeld (u .kind t) ≡ true
       → slotData p (slotOf (p .sectors) (u .inter t) (sectorOf p a)) (trackBytes p (homeOf t (u .kind t)) image) ≡ u .held a
 
 pub mirrors-by : (p : Params) (w : Within p) (u : Disk) (image : List ℕ) → ((t : Track) → t .0 < trackCount p → TrackMirrors p u image t)

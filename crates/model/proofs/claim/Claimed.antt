@@ -1,5 +1,5 @@
 -- The claim is proved: fresh, engine and machine agree, and each call keeps that.
-use Prim.Native.Nat.{ℕ, _*_, _≤_, _<_}
+use Prim.Native.Nat.{ℕ, _≤_, _<_}
 use mathlib.Core.Path.{_≡_, refl, sym, ap, ap₂, _∙_}
 use mathlib.Core.Bool.{true, false≢true}
 use mathlib.Core.Option.{Option, some}
@@ -13,7 +13,7 @@ use Rattle.geometry.specs.declared.params.Track.{Track}
 use Rattle.geometry.specs.declared.params.Params.{Params}
 use Rattle.geometry.specs.declared.medium.Medium.{Medium}
 use Rattle.geometry.specs.declared.config.Setting.the-variants.{Valid}
-use Rattle.geometry.specs.Params.{Within, trackCount, trackOf, sectorOf}
+use Rattle.geometry.specs.Params.{Within, trackCount, trackOf, sectorOf, OnDrive}
 use Rattle.geometry.specs.Medium.{mediumOf}
 use Rattle.geometry.specs.Config.{settingOf}
 use Rattle.geometry.proofs.Settings.{setting-within}
@@ -50,11 +50,11 @@ module _ (p : Params) (u : Disk) (image : List ℕ) (a : Lba) (held : isHeld (u 
 
 -- tracks past the last have no state, so what is held is on the drive
 held-inside : (p : Params) → Within p → (kind : Track → Kind) → ((t : Track) → trackCount p ≤ t .0 → kind t ≡ stateless)
-    → (a : Lba) → isHeld (kind (trackOf p a)) ≡ true → a .0 < trackCount p * p .sectors
+    → (a : Lba) → isHeld (kind (trackOf p a)) ≡ true → OnDrive p a
 unfolding isHeld
 held-inside p w kind past a held = by (decLt (trackOf p a .0) (trackCount p))
   where
-    by : Dec (trackOf p a .0 < trackCount p) → a .0 < trackCount p * p .sectors
+    by : Dec (trackOf p a .0 < trackCount p) → OnDrive p a
     by (yes h) = track-of-drive p w a h
     by (no h) = absurd (false≢true (sym (ap isHeld (past (trackOf p a) (omega (arith, h)))) ∙ held))
 

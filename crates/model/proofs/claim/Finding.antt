@@ -1,5 +1,5 @@
 -- Where an image mirrors the machine, finding a sector goes as the machine's states say.
-use Prim.Native.Nat.{ℕ, _*_, _<_, _≤_}
+use Prim.Native.Nat.{ℕ, _<_, _≤_}
 use mathlib.Core.Path.{_≡_, refl, sym, ap, _∙_, subst}
 use mathlib.Core.List.{List}
 use native.Mathlib.Omega.{arith}
@@ -8,7 +8,7 @@ use Rattle.base.specs.Pick.{pick}
 use Rattle.geometry.specs.declared.params.Lba.{Lba}
 use Rattle.geometry.specs.declared.params.Track.{Track}
 use Rattle.geometry.specs.declared.params.Params.{Params}
-use Rattle.geometry.specs.Params.{Within, imageLength, trackCount, trackOf, sectorOf}
+use Rattle.geometry.specs.Params.{Within, imageLength, trackCount, trackOf, sectorOf, OnDrive}
 use Rattle.interleave.proofs.Slots.{slotOf}
 use Rattle.track.specs.declared.state.State.the-variants.{Sound, Bad, Moved, Taken}
 use Rattle.track.specs.Image.{trackBytes, slotData}
@@ -91,7 +91,7 @@ module _ (p : Params) (w : Within p) (kind : Track → Kind) (inter : Track → 
       let pair = mirror .moves t u h e in
       subst (λ (f : ℕ). Formed p u (Taken t) f image) (pair .inters) (taken-formed p kind inter held image mirror u (pair .ours) t (pair .returned))
 
-  module _ (a : Lba) (h : a .0 < trackCount p * p .sectors) where
+  module _ (a : Lba) (h : OnDrive p a) where
     here : trackOf p a .0 < trackCount p
     here = track-in p w a h
 
@@ -121,7 +121,7 @@ module _ (p : Params) (w : Within p) (kind : Track → Kind) (inter : Track → 
         stops 0x1C (λ z. omega (arith, z)) (stops-taken t a (kind t) u e)
         (found-taken p t (inter t) (sectorOf p a) image some-sector (sector-in p w a) u (taken-formed p kind inter held image mirror t here u e))
 
-  pub found-by : (a : Lba) → a .0 < trackCount p * p .sectors → Found p kind inter held image a
+  pub found-by : (a : Lba) → OnDrive p a → Found p kind inter held image a
   found-by a h = found-kind a h (kind (trackOf p a)) refl
 
   -- ---- the home of a held track is one of the drive, and no two held addresses share a slot

@@ -1,6 +1,6 @@
 -- An image mirrors what the plain machine has of a drive: each track is formed as its state and interleave say, pairs are
 -- mutual, and the bytes held are in their slots.
-use Prim.Native.Nat.{ℕ, _+_, _*_, _≤_, _<_}
+use Prim.Native.Nat.{ℕ, _+_, _≤_, _<_}
 use mathlib.Core.Path.{_≡_}
 use mathlib.Core.Bool.{true}
 use mathlib.Core.List.{List}
@@ -9,7 +9,7 @@ use Rattle.base.specs.Part.{part}
 use Rattle.geometry.specs.declared.params.Lba.{Lba}
 use Rattle.geometry.specs.declared.params.Track.{Track}
 use Rattle.geometry.specs.declared.params.Params.{Params}
-use Rattle.geometry.specs.Params.{trackCount, trackOf, sectorOf}
+use Rattle.geometry.specs.Params.{trackCount, trackOf, sectorOf, OnDrive}
 use Rattle.interleave.proofs.Slots.{slotOf}
 use Rattle.track.specs.declared.state.State.{State}
 use Rattle.track.specs.declared.state.State.the-variants.{Sound, Bad, Moved, Taken}
@@ -47,7 +47,7 @@ pub record Mirrors (p : Params) (kind : Track → Kind) (inter : Track → ℕ) 
   pub past : (t : Track) → trackCount p ≤ t .0 → kind t ≡ stateless
   pub moves : (t u : Track) → t .0 < trackCount p → kind t ≡ moved u → Paired p kind inter t u (taken t)
   pub takes : (t u : Track) → t .0 < trackCount p → kind t ≡ taken u → Paired p kind inter t u (moved t)
-  pub kept : (a : Lba) → a .0 < trackCount p * p .sectors → isHeld (kind (trackOf p a)) ≡ true
+  pub kept : (a : Lba) → OnDrive p a → isHeld (kind (trackOf p a)) ≡ true
       → slotData p (slotOf (p .sectors) (inter (trackOf p a)) (sectorOf p a)) (trackBytes p (homeOf (trackOf p a) (kind (trackOf p a))) image) ≡ held a
 
 -- The label's sixteen bytes and the length are as before.

@@ -1,5 +1,5 @@
 -- The commands on one track: Check Track, Format Track, Format Bad Track, Assign Alternate.
-use Prim.Native.Nat.{ℕ, _*_, _<_}
+use Prim.Native.Nat.{ℕ, _<_}
 use mathlib.Core.Path.{_≡_, refl, sym, ap, _∙_}
 use mathlib.Core.Bool.{false, not, _&&_, and-true, and-false}
 use mathlib.Core.List.{List, []}
@@ -17,7 +17,7 @@ use Rattle.geometry.specs.declared.params.Track.{Track}
 use Rattle.geometry.specs.declared.params.Params.{Params}
 use Rattle.geometry.specs.declared.medium.Medium.{Medium}
 use Rattle.geometry.specs.declared.medium.Medium.the-variants.{HardDisk, Floppy}
-use Rattle.geometry.specs.Params.{Within, trackCount, trackOf}
+use Rattle.geometry.specs.Params.{Within, trackCount, trackOf, OnDrive}
 use Rattle.geometry.specs.Medium.{mediumOf, isFloppy}
 use Rattle.geometry.proofs.Addresses.{track-in}
 use Rattle.track.specs.declared.state.State.the-variants.{Sound, Bad}
@@ -66,7 +66,7 @@ paired-passed kind a e = let t = passed-on _ _ _ _ e in (t .0, passed-on _ _ _ _
 
 -- tracks A and B at addresses a and b, where an assignment is not denied
 record Assignable (kind : Track → Kind) (p : Params) (a b : Lba) : Type 0 where
-  inside : b .0 < trackCount p * p .sectors
+  inside : OnDrive p b
   apart : trackOf p a .0 ≡ trackOf p b .0 → ⊥
   movedA : isMoved (kind (trackOf p a)) ≡ false
   takenA : isTaken (kind (trackOf p a)) ≡ false

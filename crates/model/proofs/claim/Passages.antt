@@ -1,5 +1,5 @@
 -- Read and Write: the engine's transfer and the machine's go sector by sector together.
-use Prim.Native.Nat.{ℕ, zero, suc, _+_, _-_, _*_, _<_, _≤_}
+use Prim.Native.Nat.{ℕ, zero, suc, _+_, _-_, _*_, _≤_}
 use mathlib.Core.Path.{_≡_, refl, sym, ap, _∙_}
 use mathlib.Core.List.{List, [], _++_, append-assoc, append-nil}
 use native.Mathlib.Omega.{arith}
@@ -11,7 +11,7 @@ use Rattle.base.proofs.Parts.{length-splice, splice-none}
 use Rattle.geometry.specs.declared.params.Lba.{Lba}
 use Rattle.geometry.specs.declared.params.Track.{Track}
 use Rattle.geometry.specs.declared.params.Params.{Params}
-use Rattle.geometry.specs.Params.{Within, imageLength, trackCount}
+use Rattle.geometry.specs.Params.{Within, imageLength, addressCount, OnDrive, further, next}
 use Rattle.track.specs.Image.{trackBytes, slotData}
 use Rattle.sectors.specs.Transfer.{Transfer, begun, ended as endedBy, readSlot, writeSlot, onward, found, reading, writing}
 use Rattle.model.specs.declared.verdict.Verdict.{Verdict}
@@ -22,12 +22,12 @@ use Rattle.model.proofs.claim.Finding.{Found, goes, stops, found-by}
 use Rattle.model.proofs.claim.Storing.{length-held, stored-keeps, stored-mirrors}
 
 -- How it ends: all done, or one code at the address after the sectors done.
-pub data Ended (first done code : ℕ) (end : Verdict) : Type 0 where
+pub data Ended (first : Lba) (done code : ℕ) (end : Verdict) : Type 0 where
   all-done : code ≡ 0 → end ≡ Passed → Ended first done code end
-  stopped : (code ≡ 0 → ⊥) → end ≡ Faulty code (record { 0 = first + done }) → Ended first done code end
+  stopped : (code ≡ 0 → ⊥) → end ≡ Faulty code (further first done) → Ended first done code end
 
 -- A whole transfer of n sectors from address a on, in the engine (x) and in the machine (y).
-pub record Together (p : Params) (n a : ℕ) (x : Transfer) (y : Passage) : Type 0 where
+pub record Together (p : Params) (n : ℕ) (a : Lba) (x : Transfer) (y : Passage) : Type 0 where
   pub most : length (y .sectors) ≤ n
   pub done : x .done ≡ length (y .sectors)
   pub bytes : length (inARow (y .sectors)) ≡ length (y .sectors) * p .size
@@ -59,7 +59,7 @@ leave-again sector last buffer h =
     ∙ drop-drop n (length last) buffer ∙ ap (λ (i : ℕ). drop i buffer) (sym e)))
 
 -- ---- n sectors more, from address a on: the engine's transfer goes from x to r, and the machine's passage is y
-record Went (p : Params) (n a : ℕ) (x r : Transfer) (y : Passage) : Type 0 where
+record Went (p : Params) (n : ℕ) (a : Lba) (x r : Transfer) (y : Passage) : Type 0 where
   most : length (y .sectors) ≤ n
   done : r .done ≡ x .done + length (y .sectors)
   bytes : length (inARow (y .sectors)) ≡ length (y .sectors) * p .size
@@ -68,15 +68,15 @@ record Went (p : Params) (n a : ℕ) (x r : Transfer) (y : Passage) : Type 0 whe
   ended : Ended a (length (y .sectors)) (r .code) (y .end)
 
 module _ (p : Params) (x : Transfer) (u : Disk) (short : length (x .last) ≤ p .size) where
-  went-none : (a : ℕ) → x .code ≡ 0 → Went p 0 a x x (finished Passed u)
+  went-none : (a : Lba) → x .code ≡ 0 → Went p 0 a x x (finished Passed u)
   unfolding finished inARow leaving
   went-none a e =
       record { most = omega arith; done = omega arith; bytes = omega arith; buffer = λ b. refl; short = short; ended = all-done e refl }
 
-  went-stop : (n a code : ℕ) → (code ≡ 0 → ⊥) → Went p n a x (endedBy code x) (finished (Faulty code (record { 0 = a })) u)
+  went-stop : (n : ℕ) (a : Lba) (code : ℕ) → (code ≡ 0 → ⊥) → Went p n a x (endedBy code x) (finished (Faulty code a) u)
   unfolding finished endedBy inARow leaving
   went-stop n a code ne =
-      let e : a ≡ a + 0 = omega arith in
+      let e : a .0 ≡ a .0 + 0 = omega arith in
       record {
         most = omega arith;
         done = omega arith;
@@ -86,17 +86,17 @@ module _ (p : Params) (x : Transfer) (u : Disk) (short : length (x .last) ≤ p 
         ended = stopped ne (ap (λ (i : ℕ). Faulty code (record { 0 = i })) e);
       }
 
-ended-next : (a n code : ℕ) (end : Verdict) → Ended (suc a) n code end → Ended a (suc n) code end
+ended-next : (a : Lba) (n code : ℕ) (end : Verdict) → Ended (next a) n code end → Ended a (suc n) code end
 ended-next a n code end (all-done c e) = all-done c e
 ended-next a n code end (stopped c e) =
-    let z : suc a + n ≡ a + suc n = omega arith in
+    let z : suc (a .0) + n ≡ a .0 + suc n = omega arith in
     stopped c (e ∙ ap (λ (i : ℕ). Faulty code (record { 0 = i })) z)
 
 module _ (p : Params) (x : Transfer) (short : length (x .last) ≤ p .size) (sector : List ℕ) (whole : length sector ≡ p .size) where
-  went-more : (n a : ℕ) (next r : Transfer) (y : Passage) → next .done ≡ suc (x .done) → next .last ≡ sector → Went p n (suc a) next r y
+  went-more : (n : ℕ) (a : Lba) (one r : Transfer) (y : Passage) → one .done ≡ suc (x .done) → one .last ≡ sector → Went p n (next a) one r y
       → Went p (suc n) a x r (withFirst sector y)
   unfolding withFirst inARow leaving
-  went-more n a next r y ed el rest = record {
+  went-more n a one r y ed el rest = record {
     most = omega (arith, rest .most);
     done = rest .done ∙ omega (arith, ed);
     bytes = length-append sector (inARow (y .sectors)) ∙ omega (arith, whole, rest .bytes);
@@ -106,7 +106,7 @@ module _ (p : Params) (x : Transfer) (short : length (x .last) ≤ p .size) (sec
   }
 
 -- from the start on
-went-together : (p : Params) (n a : ℕ) (image : List ℕ) (r : Transfer) (y : Passage) → Went p n a (begun image) r y → Together p n a r y
+went-together : (p : Params) (n : ℕ) (a : Lba) (image : List ℕ) (r : Transfer) (y : Passage) → Went p n a (begun image) r y → Together p n a r y
 unfolding begun
 went-together p n a image r y w =
     let e : length (y .sectors) ≡ r .done = omega (arith, w .done) in
@@ -120,56 +120,56 @@ went-together p n a image r y w =
     }
 
 -- ---- Read
-record ReadOn (p : Params) (n a : ℕ) (x r : Transfer) (y : Passage) : Type 0 where
+record ReadOn (p : Params) (n : ℕ) (a : Lba) (x r : Transfer) (y : Passage) : Type 0 where
   went : Went p n a x r y
   handed : r .handed ≡ x .handed ++ inARow (y .sectors)
   image : r .image ≡ x .image
 
 module _ (p : Params) (x : Transfer) (u : Disk) (short : length (x .last) ≤ p .size) where
-  read-none : (a : ℕ) → x .code ≡ 0 → ReadOn p 0 a x x (finished Passed u)
+  read-none : (a : Lba) → x .code ≡ 0 → ReadOn p 0 a x x (finished Passed u)
   unfolding finished inARow
   read-none a e = record { went = went-none p x u short a e; handed = sym (append-nil (x .handed)); image = refl }
 
-  read-stop : (n a code : ℕ) → (code ≡ 0 → ⊥) → ReadOn p n a x (endedBy code x) (finished (Faulty code (record { 0 = a })) u)
+  read-stop : (n : ℕ) (a : Lba) (code : ℕ) → (code ≡ 0 → ⊥) → ReadOn p n a x (endedBy code x) (finished (Faulty code a) u)
   unfolding finished endedBy inARow
   read-stop n a code ne = record { went = went-stop p x u short n a code ne; handed = sym (append-nil (x .handed)); image = refl }
 
 module _ (p : Params) (w : Within p) (u : Disk) where
   module _ (x : Transfer) (fits : imageLength p ≤ length (x .image)) (mirror : Mirrors p (u .kind) (u .inter) (u .held) (x .image))
-      (short : length (x .last) ≤ p .size) (n a : ℕ) (here : a < trackCount p * p .sectors)
+      (short : length (x .last) ≤ p .size) (n : ℕ) (a : Lba) (here : OnDrive p a)
       (rest : (t : Track) (k : ℕ) → length (slotData p k (trackBytes p t (x .image))) ≡ p .size
-      → ReadOn p n (suc a) (readSlot p x t k) (reading p n (suc a) (readSlot p x t k)) (readFrom p n (suc a) u)) where
+      → ReadOn p n (next a) (readSlot p x t k) (reading p n (next a) (readSlot p x t k)) (readFrom p n (next a) u)) where
     abbrev sector : List ℕ
-    sector = u .held (record { 0 = a })
+    sector = u .held a
 
     read-more : (t : Track) (k : ℕ) → slotData p k (trackBytes p t (x .image)) ≡ sector → length sector ≡ p .size
-        → ReadOn p (suc n) a x (reading p n (suc a) (readSlot p x t k)) (withFirst sector (readFrom p n (suc a) u))
+        → ReadOn p (suc n) a x (reading p n (next a) (readSlot p x t k)) (withFirst sector (readFrom p n (next a) u))
     unfolding readSlot withFirst inARow
     read-more t k e l =
         let r = rest t k (ap length e ∙ l) in
-        let others = inARow (readFrom p n (suc a) u .sectors) in
+        let others = inARow (readFrom p n (next a) u .sectors) in
         record {
           went = went-more p x short sector l n a (readSlot p x t k) _ _ refl e (r .went);
           handed = r .handed ∙ ap (λ (s : List ℕ). (x .handed ++ s) ++ others) e ∙ append-assoc (x .handed) sector others;
           image = r .image;
         }
 
-    read-step : Found p (u .kind) (u .inter) (u .held) (x .image) (record { 0 = a })
+    read-step : Found p (u .kind) (u .inter) (u .held) (x .image) a
         → ReadOn p (suc n) a x (reading p (suc n) a x) (readFrom p (suc n) a u)
     unfolding reading readFrom found onward passing
     read-step (goes k j f e) =
-        rw (j, f) (read-more _ _ e (length-held p w (u .kind) (u .inter) (u .held) (x .image) fits mirror (record { 0 = a }) here k))
+        rw (j, f) (read-more _ _ e (length-held p w (u .kind) (u .inter) (u .held) (x .image) fits mirror a here k))
     read-step (stops code c j f) = rw (j, f) (read-stop p x u short (suc n) a code c)
 
-  read-on : (n a : ℕ) (x : Transfer) → imageLength p ≤ length (x .image) → Mirrors p (u .kind) (u .inter) (u .held) (x .image)
-      → length (x .last) ≤ p .size → x .code ≡ 0 → a + n ≤ trackCount p * p .sectors → ReadOn p n a x (reading p n a x) (readFrom p n a u)
+  read-on : (n : ℕ) (a : Lba) (x : Transfer) → imageLength p ≤ length (x .image) → Mirrors p (u .kind) (u .inter) (u .held) (x .image)
+      → length (x .last) ≤ p .size → x .code ≡ 0 → a .0 + n ≤ addressCount p → ReadOn p n a x (reading p n a x) (readFrom p n a u)
   unfolding reading readFrom readSlot
   read-on zero a x fits mirror short c inside = read-none p x u short a c
   read-on (suc n) a x fits mirror short c inside =
-      let here : a < trackCount p * p .sectors = omega arith in
+      let here : OnDrive p a = omega arith in
       read-step x fits mirror short n a here
-      (λ t k l. read-on n (suc a) (readSlot p x t k) fits mirror (omega (arith, l)) refl (omega arith))
-      (found-by p w (u .kind) (u .inter) (u .held) (x .image) fits mirror (record { 0 = a }) here)
+      (λ t k l. read-on n (next a) (readSlot p x t k) fits mirror (omega (arith, l)) refl (omega arith))
+      (found-by p w (u .kind) (u .inter) (u .held) (x .image) fits mirror a here)
 
   -- reading leaves the disk
   passing-disk : (v : Verdict) (y : Passage) → y .disk ≡ u → passing v u y .disk ≡ u
@@ -182,13 +182,13 @@ module _ (p : Params) (w : Within p) (u : Disk) where
   unfolding withFirst
   first-disk sector y e = e
 
-  read-leaves : (n a : ℕ) → readFrom p n a u .disk ≡ u
+  read-leaves : (n : ℕ) (a : Lba) → readFrom p n a u .disk ≡ u
   unfolding readFrom finished
   read-leaves zero a = refl
-  read-leaves (suc n) a = passing-disk _ _ (first-disk _ _ (read-leaves n (suc a)))
+  read-leaves (suc n) a = passing-disk _ _ (first-disk _ _ (read-leaves n (next a)))
 
 -- ---- Write
-record WriteOn (p : Params) (n a : ℕ) (x r : Transfer) (u : Disk) (y : Passage) : Type 0 where
+record WriteOn (p : Params) (n : ℕ) (a : Lba) (x r : Transfer) (u : Disk) (y : Passage) : Type 0 where
   went : Went p n a x r y
   handed : r .handed ≡ x .handed
   mirror : Mirrors p (y .disk .kind) (y .disk .inter) (y .disk .held) (r .image)
@@ -210,75 +210,75 @@ only-first u v at sector x = record { len = x .len; stored = x .stored; force = 
 
 module _ (p : Params) (x : Transfer) (u : Disk) (short : length (x .last) ≤ p .size)
     (mirror : Mirrors p (u .kind) (u .inter) (u .held) (x .image)) where
-  write-none : (a : ℕ) → x .code ≡ 0 → WriteOn p 0 a x x u (finished Passed u)
+  write-none : (a : Lba) → x .code ≡ 0 → WriteOn p 0 a x x u (finished Passed u)
   unfolding finished
   write-none a e = record { went = went-none p x u short a e; handed = refl; mirror = mirror; keeps = label-same (x .image); only = only-same u }
 
-  write-stop : (n a code : ℕ) → (code ≡ 0 → ⊥) → WriteOn p n a x (endedBy code x) u (finished (Faulty code (record { 0 = a })) u)
+  write-stop : (n : ℕ) (a : Lba) (code : ℕ) → (code ≡ 0 → ⊥) → WriteOn p n a x (endedBy code x) u (finished (Faulty code a) u)
   unfolding finished endedBy
   write-stop n a code ne =
       record { went = went-stop p x u short n a code ne; handed = refl; mirror = mirror; keeps = label-same (x .image); only = only-same u }
 
 module _ (p : Params) (w : Within p) where
   module _ (u : Disk) (x : Transfer) (fits : imageLength p ≤ length (x .image)) (mirror : Mirrors p (u .kind) (u .inter) (u .held) (x .image))
-      (short : length (x .last) ≤ p .size) (n a : ℕ) (here : a < trackCount p * p .sectors) (given : List ℕ)
+      (short : length (x .last) ≤ p .size) (n : ℕ) (a : Lba) (here : OnDrive p a) (given : List ℕ)
       (whole : length (take (p .size) given) ≡ p .size) where
     abbrev written : List ℕ
     written = take (p .size) given
 
     -- the disk, the transfer and the passage after this sector
     abbrev disk : Disk
-    disk = storing (record { 0 = a }) written u
+    disk = storing a written u
 
-    abbrev next : Track → ℕ → Transfer
-    next t k = writeSlot p written x t k
+    abbrev after : Track → ℕ → Transfer
+    after t k = writeSlot p written x t k
 
     abbrev on : Track → ℕ → Transfer
-    on t k = writing p n (suc a) (drop (p .size) given) (next t k)
+    on t k = writing p n (next a) (drop (p .size) given) (after t k)
 
     abbrev rest : Passage
-    rest = writeFrom p n (suc a) (drop (p .size) given) disk
+    rest = writeFrom p n (next a) (drop (p .size) given) disk
 
-    module _ (more : (t : Track) (k : ℕ) → Mirrors p (disk .kind) (disk .inter) (disk .held) (next t k .image)
-        → KeepsLabel (x .image) (next t k .image) → WriteOn p n (suc a) (next t k) (on t k) disk rest) where
-      write-more : (t : Track) (k : ℕ) → Mirrors p (disk .kind) (disk .inter) (disk .held) (next t k .image) → KeepsLabel (x .image) (next t k .image)
+    module _ (more : (t : Track) (k : ℕ) → Mirrors p (disk .kind) (disk .inter) (disk .held) (after t k .image)
+        → KeepsLabel (x .image) (after t k .image) → WriteOn p n (next a) (after t k) (on t k) disk rest) where
+      write-more : (t : Track) (k : ℕ) → Mirrors p (disk .kind) (disk .inter) (disk .held) (after t k .image) → KeepsLabel (x .image) (after t k .image)
           → WriteOn p (suc n) a x (on t k) u (withFirst written rest)
       unfolding writeSlot withFirst
       write-more t k m l =
           let r = more t k m l in
           record {
-            went = went-more p x short written whole n a (next t k) _ _ refl refl (r .went);
+            went = went-more p x short written whole n a (after t k) _ _ refl refl (r .went);
             handed = r .handed;
             mirror = r .mirror;
             keeps = label-then _ _ _ l (r .keeps);
             only = only-first u _ _ _ (r .only);
           }
 
-      write-step : Found p (u .kind) (u .inter) (u .held) (x .image) (record { 0 = a })
+      write-step : Found p (u .kind) (u .inter) (u .held) (x .image) a
           → WriteOn p (suc n) a x (writing p (suc n) a given x) u (writeFrom p (suc n) a given u)
       unfolding writing writeFrom found onward passing writeSlot storing
       write-step (goes k j f e) = rw (j, f)
           (write-more _ _
-          (stored-mirrors p w (u .kind) (u .inter) (u .held) (x .image) fits mirror (record { 0 = a }) here k written whole)
-          (stored-keeps p w (u .kind) (u .inter) (u .held) (x .image) fits mirror (record { 0 = a }) here k written whole))
+          (stored-mirrors p w (u .kind) (u .inter) (u .held) (x .image) fits mirror a here k written whole)
+          (stored-keeps p w (u .kind) (u .inter) (u .held) (x .image) fits mirror a here k written whole))
       write-step (stops code c j f) = rw (j, f) (write-stop p x u short mirror (suc n) a code c)
 
-  write-on : (n a : ℕ) (given : List ℕ) (u : Disk) (x : Transfer) → imageLength p ≤ length (x .image)
-      → Mirrors p (u .kind) (u .inter) (u .held) (x .image) → length (x .last) ≤ p .size → x .code ≡ 0 → a + n ≤ trackCount p * p .sectors
+  write-on : (n : ℕ) (a : Lba) (given : List ℕ) (u : Disk) (x : Transfer) → imageLength p ≤ length (x .image)
+      → Mirrors p (u .kind) (u .inter) (u .held) (x .image) → length (x .last) ≤ p .size → x .code ≡ 0 → a .0 + n ≤ addressCount p
       → n * p .size ≤ length given → WriteOn p n a x (writing p n a given x) u (writeFrom p n a given u)
   unfolding writing writeFrom writeSlot
   write-on zero a given u x fits mirror short c inside enough = write-none p x u short mirror a c
   write-on (suc n) a given u x fits mirror short c inside enough =
-      let here : a < trackCount p * p .sectors = omega arith in
+      let here : OnDrive p a = omega arith in
       let whole : length (take (p .size) given) ≡ p .size = length-take-le (p .size) given (omega arith) in
       write-step u x fits mirror short n a here given whole
-      (λ t k m l. write-on n (suc a) (drop (p .size) given) _ _ (rw (l .len) fits) m (omega (arith, whole)) refl (omega arith)
+      (λ t k m l. write-on n (next a) (drop (p .size) given) _ _ (rw (l .len) fits) m (omega (arith, whole)) refl (omega arith)
       (rw (length-drop (p .size) given) (omega arith)))
-      (found-by p w (u .kind) (u .inter) (u .held) (x .image) fits mirror (record { 0 = a }) here)
+      (found-by p w (u .kind) (u .inter) (u .held) (x .image) fits mirror a here)
 
 -- ---- whole transfers
 module _ (p : Params) (w : Within p) (u : Disk) (image : List ℕ) (fits : imageLength p ≤ length image)
-    (mirror : Mirrors p (u .kind) (u .inter) (u .held) image) (n a : ℕ) (inside : a + n ≤ trackCount p * p .sectors) where
+    (mirror : Mirrors p (u .kind) (u .inter) (u .held) image) (n : ℕ) (a : Lba) (inside : a .0 + n ≤ addressCount p) where
   read-all : ReadOn p n a (begun image) (reading p n a (begun image)) (readFrom p n a u)
   unfolding begun
   read-all = read-on p w u n a (begun image) fits mirror (omega arith) refl inside

@@ -90,9 +90,9 @@ module _ (b : Block) (p : Params) (w : Within p) (hf : (0 < b .extra) × (b .ext
 
   -- Format Drive: below s the image must mirror the machine before, and no pair may be split; from track 0 on nothing is asked.
   pub drive-remade : (config : List ℕ) → length config ≡ 10 → trackOf p (b .address) .0 < trackCount p
-      → (0 < trackOf p (b .address) .0 → Mirrors p (u .kind) (u .inter) (u .held) image × (someParted (u .kind) (trackOf p (b .address) .0) (trackCount p) ≡ false))
-      → Mirrors p (reformatted p (trackOf p (b .address) .0) (b .extra) fill u .kind) (reformatted p (trackOf p (b .address) .0) (b .extra) fill u .inter)
-      (reformatted p (trackOf p (b .address) .0) (b .extra) fill u .held) (driveFormatted b p config fill image)
+      → (0 < trackOf p (b .address) .0 → Mirrors p (u .kind) (u .inter) (u .held) image × (someParted (u .kind) (trackOf p (b .address)) (trackCount p) ≡ false))
+      → Mirrors p (reformatted p (trackOf p (b .address)) (b .extra) fill u .kind) (reformatted p (trackOf p (b .address)) (b .extra) fill u .inter)
+      (reformatted p (trackOf p (b .address)) (b .extra) fill u .held) (driveFormatted b p config fill image)
   unfolding driveFormatted
   drive-remade config ten h below =
-      mirrors-swept p w (b .extra) fill lf image fits (trackOf p (b .address) .0) h (config ++ labelRest) (sixteen config ten) u hf below
+      mirrors-swept p w (b .extra) fill lf image fits (trackOf p (b .address)) h (config ++ labelRest) (sixteen config ten) u hf below

@@ -1,5 +1,5 @@
 -- Where an image mirrors the machine, the commands' own checks go as the machine's do.
-use Prim.Native.Nat.{ℕ, zero, suc, _*_, _-_, _<_}
+use Prim.Native.Nat.{ℕ, zero, suc, _-_, _<_}
 use mathlib.Core.Path.{_≡_, refl, sym, ap, _∙_}
 use mathlib.Core.Bool.{Bool, true, false, not, _&&_, _||_}
 use mathlib.Core.Logic.{_⊎_, inl, inr}
@@ -17,13 +17,12 @@ use Rattle.base.proofs.Firsts.{first-some, first-none, none-first, some-hit, so
 use Rattle.geometry.specs.declared.params.Lba.{Lba}
 use Rattle.geometry.specs.declared.params.Track.{Track}
 use Rattle.geometry.specs.declared.params.Params.{Params}
-use Rattle.geometry.specs.Params.{Within, trackCount, trackOf, lastAddress}
+use Rattle.geometry.specs.Params.{Within, trackCount, trackOf, lastAddress, track, OnDrive, addressCount}
 use Rattle.geometry.proofs.Sizes.{sectors-some}
 use Rattle.geometry.proofs.Addresses.{track-in, same-track}
 use Rattle.interleave.specs.Layout.{layoutOf}
 use Rattle.track.specs.declared.state.State.{State}
 use Rattle.track.specs.declared.state.State.the-variants.{Sound, Bad, Moved, Taken}
-use Rattle.track.specs.State.{track}
 use Rattle.track.specs.Pair.{stateOf, oneBelow, splits, pairSplit}
 use Rattle.track.specs.State.{isBad as badState, isMoved as movedState, isTaken as takenState}
 use Rattle.formatter.specs.Check.{checkCode}
@@ -42,17 +41,17 @@ one-of true false = refl
 one-of false true = refl
 one-of false false = refl
 
-below-parted : (s t u : Track) → oneBelow s t u ≡ parted (s .0) (t .0) (u .0)
+below-parted : (s t u : Track) → oneBelow s t u ≡ parted s t u
 unfolding oneBelow parted
 below-parted s t u = rw (leb-not (s .0) (u .0), leb-not (s .0) (t .0)) (one-of (ltb (t .0) (s .0)) (ltb (u .0) (s .0)))
 
-split-parted : (s : Track) (t : ℕ) (k : Kind) → splits s (track t) (stateFor k) ≡ partedBy (s .0) t k
+split-parted : (s t : Track) (k : Kind) → splits s t (stateFor k) ≡ partedBy s t k
 unfolding splits partedBy stateFor
 split-parted s t stateless = refl
 split-parted s t sound = refl
 split-parted s t bad = refl
-split-parted s t (moved u) = below-parted s (track t) u
-split-parted s t (taken u) = below-parted s (track t) u
+split-parted s t (moved u) = below-parted s t u
+split-parted s t (taken u) = below-parted s t u
 
 -- no track is below track 0
 below-zero : (t u : Track) → oneBelow (track 0) t u ≡ false
@@ -72,29 +71,29 @@ unfolding pairSplit
 split-zero p image = some-none _ _ (none-first _ _ (λ i h. splits-zero (track i) (stateOf p (track i) image)))
 
 -- the machine's test of every track below n, by what it gives for each
-none-parted : (kind : Track → Kind) (s n : ℕ) → ((t : ℕ) → t < n → partedBy s t (kind (track t)) ≡ false) → someParted kind s n ≡ false
+none-parted : (kind : Track → Kind) (s : Track) (n : ℕ) → ((k : ℕ) → k < n → partedBy s (track k) (kind (track k)) ≡ false) → someParted kind s n ≡ false
 unfolding someParted
 none-parted kind s zero h = refl
-none-parted kind s (suc n) h = rw (h n (omega arith), none-parted kind s n (λ t l. h t (omega arith)))
+none-parted kind s (suc n) h = rw (h n (omega arith), none-parted kind s n (λ k l. h k (omega arith)))
 
 or-true : (b : Bool) → (b || true) ≡ true
 or-true true = refl
 or-true false = refl
 
-some-parted : (kind : Track → Kind) (s n t : ℕ) → t < n → partedBy s t (kind (track t)) ≡ true → someParted kind s n ≡ true
+some-parted : (kind : Track → Kind) (s : Track) (n k : ℕ) → k < n → partedBy s (track k) (kind (track k)) ≡ true → someParted kind s n ≡ true
 unfolding someParted
-some-parted kind s zero t h e = absurd (omega arith)
-some-parted kind s (suc n) t h e = by (eq-or-lt-of-le (le-of-suc-le-suc h)) (λ l. some-parted kind s n t l e)
+some-parted kind s zero k h e = absurd (omega arith)
+some-parted kind s (suc n) k h e = by (eq-or-lt-of-le (le-of-suc-le-suc h)) (λ l. some-parted kind s n k l e)
   where
-    by : (t ≡ n) ⊎ (t < n) → (t < n → someParted kind s n ≡ true) → (partedBy s n (kind (track n)) || someParted kind s n) ≡ true
-    by (inl z) ih = rw (ap (λ (i : ℕ). partedBy s i (kind (track i))) (sym z) ∙ e)
-    by (inr l) ih = rw (ih l) (or-true (partedBy s n (kind (track n))))
+    by : (k ≡ n) ⊎ (k < n) → (k < n → someParted kind s n ≡ true) → (partedBy s (track n) (kind (track n)) || someParted kind s n) ≡ true
+    by (inl z) ih = rw (ap (λ (i : ℕ). partedBy s (track i) (kind (track i))) (sym z) ∙ e)
+    by (inr l) ih = rw (ih l) (or-true (partedBy s (track n) (kind (track n))))
 
-parted-below-zero : (t : ℕ) (k : Kind) → partedBy 0 t k ≡ false
-parted-below-zero t k = sym (split-parted (track 0) t k) ∙ splits-zero (track t) (stateFor k)
+parted-below-zero : (t : Track) (k : Kind) → partedBy (track 0) t k ≡ false
+parted-below-zero t k = sym (split-parted (track 0) t k) ∙ splits-zero t (stateFor k)
 
-pub parted-zero : (kind : Track → Kind) (n : ℕ) → someParted kind 0 n ≡ false
-parted-zero kind n = none-parted kind 0 n (λ t h. parted-below-zero t (kind (track t)))
+pub parted-zero : (kind : Track → Kind) (n : ℕ) → someParted kind (track 0) n ≡ false
+parted-zero kind n = none-parted kind (track 0) n (λ k h. parted-below-zero (track k) (kind (track k)))
 
 -- ---- states and kinds give the same tests
 bad-kind : (k : Kind) → badState (stateFor k) ≡ isBad k
@@ -163,23 +162,23 @@ module _ (p : Params) (w : Within p) (kind : Track → Kind) (inter : Track → 
   pub state-mirrored : (t : Track) → t .0 < trackCount p → stateOf p t image ≡ stateFor (kind t)
   state-mirrored t h = state-formed p t (stateFor (kind t)) (inter t) image (omega (arith, w .sectors-some)) (mirror .formed t h)
 
-  test-mirrored : (s : Track) (t : ℕ) → t < trackCount p → splits s (track t) (stateOf p (track t) image) ≡ partedBy (s .0) t (kind (track t))
-  test-mirrored s t h = ap (splits s (track t)) (state-mirrored (track t) h) ∙ split-parted s t (kind (track t))
+  test-mirrored : (s t : Track) → t .0 < trackCount p → splits s t (stateOf p t image) ≡ partedBy s t (kind t)
+  test-mirrored s t h = ap (splits s t) (state-mirrored t h) ∙ split-parted s t (kind t)
 
-  pub split-mirrored : (s : Track) → pairSplit p s image ≡ someParted kind (s .0) (trackCount p)
+  pub split-mirrored : (s : Track) → pairSplit p s image ≡ someParted kind s (trackCount p)
   unfolding pairSplit
   split-mirrored s = by (firstBelow test (trackCount p)) refl
     where
       test : ℕ → Bool
-      test t = splits s (track t) (stateOf p (track t) image)
+      test k = splits s (track k) (stateOf p (track k) image)
 
-      by : (o : Option ℕ) → firstBelow test (trackCount p) ≡ o → someBelow test (trackCount p) ≡ someParted kind (s .0) (trackCount p)
+      by : (o : Option ℕ) → firstBelow test (trackCount p) ≡ o → someBelow test (trackCount p) ≡ someParted kind s (trackCount p)
       by none e =
           some-none test (trackCount p) e
-          ∙ sym (none-parted kind (s .0) (trackCount p) (λ t h. sym (test-mirrored s t h) ∙ first-none test (trackCount p) e t h))
-      by (some t) e =
-          let r = first-some test (trackCount p) t e in
-          some-hit test (trackCount p) t e ∙ sym (some-parted kind (s .0) (trackCount p) t (r .0) (sym (test-mirrored s t (r .0)) ∙ r .1))
+          ∙ sym (none-parted kind s (trackCount p) (λ k h. sym (test-mirrored s (track k) h) ∙ first-none test (trackCount p) e k h))
+      by (some k) e =
+          let r = first-some test (trackCount p) k e in
+          some-hit test (trackCount p) k e ∙ sym (some-parted kind s (trackCount p) k (r .0) (sym (test-mirrored s (track k) (r .0)) ∙ r .1))
 
   pub alone-mirrored : (t : Track) (a : Lba) → t .0 < trackCount p → aloneTests (stateOf p t image) a ≡ paired (kind t) a
   unfolding aloneTests paired
@@ -218,9 +217,9 @@ module _ (p : Params) (w : Within p) (kind : Track → Kind) (inter : Track → 
   check-mirrored t a f h hf = check-kind t a f h hf (kind t) refl
 
   -- an address past the last one is at or past their number
-  past-last : (b : ℕ) → ltb (lastAddress p .0) b ≡ leb (trackCount p * p .sectors) b
+  past-last : (b : ℕ) → ltb (lastAddress p .0) b ≡ leb (addressCount p) b
   past-last b =
-      let e : suc (trackCount p * p .sectors - 1) ≡ trackCount p * p .sectors = omega (arith, sectors-some p w) in
+      let e : suc (addressCount p - 1) ≡ addressCount p = omega (arith, sectors-some p w) in
       ap (λ (n : ℕ). leb n b) e
 
   assign-kinds : (first : ℕ) (a b : Lba)
@@ -233,7 +232,7 @@ module _ (p : Params) (w : Within p) (kind : Track → Kind) (inter : Track → 
 
   pub assign-mirrored : (first : ℕ) (a b : Lba) → trackOf p a .0 < trackCount p
       → judged (assignTests p first a b (stateOf p (trackOf p a) image) (stateOf p (trackOf p b) image)) ≡ judged (unassignable kind p first a b)
-  assign-mirrored first a b h = rw (state-mirrored (trackOf p a) h, ← assign-kinds first a b) (by (decLt (b .0) (trackCount p * p .sectors)))
+  assign-mirrored first a b h = rw (state-mirrored (trackOf p a) h, ← assign-kinds first a b) (by (decLt (b .0) (addressCount p)))
     where
       A : State
       A = stateFor (kind (trackOf p a))
@@ -241,7 +240,7 @@ module _ (p : Params) (w : Within p) (kind : Track → Kind) (inter : Track → 
       B : State
       B = stateFor (kind (trackOf p b))
 
-      by : Dec (b .0 < trackCount p * p .sectors)
+      by : Dec (OnDrive p b)
           → judged (assignTests p first a b A (stateOf p (trackOf p b) image)) ≡ judged (assignTests p first a b A B)
       by (yes l) = rw (state-mirrored (trackOf p b) (track-in p w b l))
       by (no l) = assign-past p first a b A _ B (lt-ltb (lastAddress p .0) (b .0) (omega (arith, sectors-some p w)))

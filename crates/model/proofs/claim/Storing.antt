@@ -13,8 +13,8 @@ use Rattle.base.proofs.Decide.{pick-true, pick-false}
 use Rattle.geometry.specs.declared.params.Lba.{Lba}
 use Rattle.geometry.specs.declared.params.Track.{Track}
 use Rattle.geometry.specs.declared.params.Params.{Params}
-use Rattle.geometry.specs.Params.{Within, imageLength, trackSize, trackCount, trackOf, sectorOf}
-use Rattle.geometry.proofs.Addresses.{track-in, sector-in}
+use Rattle.geometry.specs.Params.{Within, imageLength, trackSize, trackCount, trackOf, sectorOf, OnDrive}
+use Rattle.geometry.proofs.Addresses.{track-in, sector-in, same-lba}
 use Rattle.interleave.proofs.Slots.{sectorAt, slotOf, slot-lt, sector-slot}
 use Rattle.track.specs.Image.{trackBytes, withTrack, slotData, withData}
 use Rattle.track.proofs.Images.{length-track, length-with-track, track-same, track-other, label-kept, length-data, length-with-data, data-same, data-other}
@@ -42,14 +42,14 @@ module _ (p : Params) (w : Within p) (kind : Track → Kind) (inter : Track → 
   abbrev slot : Lba → ℕ
   slot a = slotOf (p .sectors) (inter (trackOf p a)) (sectorOf p a)
 
-  module _ (a : Lba) (ha : a .0 < trackCount p * p .sectors) where
+  module _ (a : Lba) (ha : OnDrive p a) where
     pub home-in : home a .0 < trackCount p
     home-in = home-ours p w kind inter held image fits mirror (trackOf p a) (track-in p w a ha)
 
     pub slot-in : slot a < p .sectors
     slot-in = slot-lt (p .sectors) (inter (trackOf p a)) (sectorOf p a) (sector-in p w a)
 
-  module _ (a : Lba) (ha : a .0 < trackCount p * p .sectors) (ka : isHeld (kind (trackOf p a)) ≡ true) where
+  module _ (a : Lba) (ha : OnDrive p a) (ka : isHeld (kind (trackOf p a)) ≡ true) where
     pub length-held : length (held a) ≡ p .size
     length-held =
         rw (← mirror .kept a ha ka)
@@ -87,7 +87,7 @@ module _ (p : Params) (w : Within p) (kind : Track → Kind) (inter : Track → 
           ap (slotData p k) (track-same p image fits (home a) bytes (home-in a ha) lb)
           ∙ data-other p (trackBytes p (home a) image) lt (slot a) sector (slot-in a ha) ls k hk ne
 
-      stored-kept : (b : Lba) → b .0 < trackCount p * p .sectors → isHeld (kind (trackOf p b)) ≡ true → (a .0 ≡ b .0 → ⊥)
+      stored-kept : (b : Lba) → OnDrive p b → isHeld (kind (trackOf p b)) ≡ true → (a .0 ≡ b .0 → ⊥)
           → slotData p (slot b) (trackBytes p (home b) stored) ≡ slotData p (slot b) (trackBytes p (home b) image)
       stored-kept b hb kb ne = by (ℕ-discrete (trackOf p a .0) (trackOf p b .0))
         where
@@ -118,9 +118,9 @@ module _ (p : Params) (w : Within p) (kind : Track → Kind) (inter : Track → 
           same-ids : SameIds p stored image
           same-ids = data-keeps p image (home a) (slot a) sector fits (home-in a ha) (slot-in a ha) ls
 
-          by : (b : Lba) → b .0 < trackCount p * p .sectors → isHeld (kind (trackOf p b)) ≡ true → Dec (b .0 ≡ a .0)
+          by : (b : Lba) → OnDrive p b → isHeld (kind (trackOf p b)) ≡ true → Dec (b .0 ≡ a .0)
               → slotData p (slot b) (trackBytes p (home b) stored) ≡ pick (eqb (b .0) (a .0)) sector (held b)
           by b hb kb (yes e) =
-              ap (λ (i : ℕ). slotData p (slot (record { 0 = i })) (trackBytes p (home (record { 0 = i })) stored)) e
+              ap (λ (c : Lba). slotData p (slot c) (trackBytes p (home c) stored)) (same-lba b a e)
               ∙ stored-here ∙ sym (pick-true _ _ _ (eq-eqb _ _ e))
           by b hb kb (no ne) = stored-kept b hb kb (λ e. ne (sym e)) ∙ mirror .kept b hb kb ∙ sym (pick-false _ _ _ (ne-eqb _ _ ne))

@@ -10,7 +10,7 @@ use borrow.Author.Tests.{eq-eqb, ne-eqb}
 use Rattle.base.specs.Part.{splice}
 use Rattle.base.proofs.Decide.{pick-true, pick-false}
 use Rattle.geometry.specs.declared.params.Params.{Params}
-use Rattle.geometry.specs.Params.{Within, trackCount}
+use Rattle.geometry.specs.Params.{Within, addressCount, further}
 use Rattle.geometry.specs.Medium.{mediumOf}
 use Rattle.sectors.specs.Transfer.{Transfer, begun, reading, writing}
 use Rattle.model.specs.declared.block.Block.{Block}
@@ -27,7 +27,7 @@ use Rattle.model.proofs.claim.Ends.{Done, done-both, well-follows, fail
 use Rattle.model.proofs.claim.Current.{InForce, mirrored, drive-again}
 
 module _ (b : Block) (area : List ℕ) (entry : Drive) (buffer image : List ℕ) (m : Machine) (alike : InStep (b .drive) entry buffer image m) where
-  module _ (p : Params) (w : Within p) (n : ℕ) (x : Transfer) (y : Passage) (together : Together p n (b .address .0) x y)
+  module _ (p : Params) (w : Within p) (n : ℕ) (x : Transfer) (y : Passage) (together : Together p n (b .address) x y)
       (len : length (x .image) ≡ length image) (drive : Drives (mediumOf (b .drive)) entry (x .image) (y .disk)) where
     done : Done (b .drive) image m entry (splice 0 (x .last) buffer) (x .image)
         (withDisk (b .drive) (y .disk) (withBuffer (leaving (y .sectors) (m .buffer)) m))
@@ -40,17 +40,17 @@ module _ (b : Block) (area : List ℕ) (entry : Drive) (buffer image : List ℕ)
     unfolding transferred transferEnding transfer transferBy
     transfer-follows = by (together .ended)
       where
-        by : Ended (b .address .0) (x .done) (x .code) (y .end)
+        by : Ended (b .address) (x .done) (x .code) (y .end)
             → Follows (b .drive) area image m (transferred b entry buffer x) (transfer b y (x .handed) m)
         by (all-done e passed) =
             rw (passed, pick-true (eqb (x .code) 0) _ _ (eq-eqb (x .code) 0 e), ← together .done)
             (well-follows b area image m entry _ (x .image) _ done (x .done) (x .handed))
         by (stopped e fault) =
             rw (fault, pick-false (eqb (x .code) 0) _ _ (ne-eqb (x .code) 0 e), ← together .done)
-            (failing-follows b area image m entry _ (x .image) _ done (x .done) (x .handed) (x .code) (record { 0 = b .address .0 + x .done }))
+            (failing-follows b area image m entry _ (x .image) _ done (x .done) (x .handed) (x .code) (further (b .address) (x .done)))
 
   module _ (p : Params) (force : InForce (mediumOf (b .drive)) entry image (m .disks (b .drive)) p) (calm : m .disks (b .drive) .pending ≡ false)
-      (inside : b .address .0 + countOf b ≤ trackCount p * p .sectors) where
+      (inside : b .address .0 + countOf b ≤ addressCount p) where
     mirror : Mirrors p (m .disks (b .drive) .kind) (m .disks (b .drive) .inter) (m .disks (b .drive) .held) image
     mirror = mirrored _ _ _ _ (alike .drive) p force calm
 
@@ -59,7 +59,7 @@ module _ (b : Block) (area : List ℕ) (entry : Drive) (buffer image : List ℕ)
     read-follows =
         let u = m .disks (b .drive) in
         let n = countOf b in
-        let a = b .address .0 in
+        let a = b .address in
         let x = reading p n a (begun image) in
         let y = readFrom p n a u in
         let i = read-image p (force .within) u image (force .fits) mirror n a inside in
@@ -75,7 +75,7 @@ module _ (b : Block) (area : List ℕ) (entry : Drive) (buffer image : List ℕ)
     write-follows given enough =
         let u = m .disks (b .drive) in
         let n = countOf b in
-        let a = b .address .0 in
+        let a = b .address in
         let x = writing p n a given (begun image) in
         let y = writeFrom p n a given u in
         let keeps = write-keeps p (force .within) u image (force .fits) mirror n a inside given enough in

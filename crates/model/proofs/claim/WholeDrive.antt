@@ -7,15 +7,15 @@ use mathlib.Core.List.{List, [], _++_}
 use native.Mathlib.Omega.{arith}
 use lib.ListN.{length}
 use Rattle.base.specs.Part.{part}
+use Rattle.geometry.specs.declared.params.Track.{Track}
 use Rattle.geometry.specs.declared.params.Params.{Params}
 use Rattle.geometry.specs.declared.medium.Medium.{Medium}
 use Rattle.geometry.specs.declared.config.Setting.the-variants.{Valid}
-use Rattle.geometry.specs.Params.{trackCount, trackOf}
+use Rattle.geometry.specs.Params.{trackCount, trackOf, track}
 use Rattle.geometry.specs.Medium.{mediumOf}
 use Rattle.geometry.specs.Config.{settingOf, labelRest}
 use Rattle.geometry.proofs.Settings.{setting-ten}
 use Rattle.geometry.proofs.Labels.{label-made}
-use Rattle.track.specs.State.{track}
 use Rattle.track.specs.Pair.{pairSplit}
 use Rattle.model.specs.declared.block.Block.{Block}
 use Rattle.model.specs.declared.record.Drive.{Drive}
@@ -35,7 +35,7 @@ use Rattle.model.proofs.claim.OneTrack.{fill-same, fill-sized}
 -- the drive after it: what was in force is stored, and not pending
 module _ (medium : Medium) (entry : Drive) (image : List ℕ) (u : Disk) (drive : Drives medium entry image u) (p : Params)
     (force : InForce medium entry image u p)
-    (s inter : ℕ) (fill after : List ℕ) where
+    (s : Track) (inter : ℕ) (fill after : List ℕ) where
   drive-settled : length after ≡ length image → part 0 16 after ≡ entry .config ++ labelRest
       → Mirrors p (reformatted p s inter fill u .kind) (reformatted p s inter fill u .inter) (reformatted p s inter fill u .held) after
       → Drives medium (pendingEnded entry) after (reformatted p s inter fill u)
@@ -57,15 +57,15 @@ module _ (b : Block) (area : List ℕ) (entry : Drive) (buffer image : List ℕ)
     (calm : (m .disks (b .drive) .pending ≡ false) ⊎ (trackOf p (b .address) .0 ≡ 0))
     (ours : trackOf p (b .address) .0 < trackCount p) (inter : (0 < b .extra) × (b .extra < p .sectors)) where
   -- both find the same pair split
-  split-same : pairSplit p (trackOf p (b .address)) image ≡ someParted (m .disks (b .drive) .kind) (trackOf p (b .address) .0) (trackCount p)
+  split-same : pairSplit p (trackOf p (b .address)) image ≡ someParted (m .disks (b .drive) .kind) (trackOf p (b .address)) (trackCount p)
   split-same = by calm
     where
       by : (m .disks (b .drive) .pending ≡ false) ⊎ (trackOf p (b .address) .0 ≡ 0)
-          → pairSplit p (trackOf p (b .address)) image ≡ someParted (m .disks (b .drive) .kind) (trackOf p (b .address) .0) (trackCount p)
+          → pairSplit p (trackOf p (b .address)) image ≡ someParted (m .disks (b .drive) .kind) (trackOf p (b .address)) (trackCount p)
       by (inl e) = split-mirrored p (force .within) _ _ _ image (mirrored _ _ _ _ (alike .drive) p force e) (trackOf p (b .address))
       by (inr e) =
           ap (λ (k : ℕ). pairSplit p (track k) image) e ∙ split-zero p image
-          ∙ sym (ap (λ (k : ℕ). someParted (m .disks (b .drive) .kind) k (trackCount p)) e ∙ parted-zero (m .disks (b .drive) .kind) (trackCount p))
+          ∙ sym (ap (λ (k : ℕ). someParted (m .disks (b .drive) .kind) (track k) (trackCount p)) e ∙ parted-zero (m .disks (b .drive) .kind) (trackCount p))
 
   -- tracks below s are as before
   below : 0 < trackOf p (b .address) .0 → Mirrors p (m .disks (b .drive) .kind) (m .disks (b .drive) .inter) (m .disks (b .drive) .held) image
@@ -80,7 +80,7 @@ module _ (b : Block) (area : List ℕ) (entry : Drive) (buffer image : List ℕ)
   unfolding formatOn formatDrive asEffect
   drive-follows =
       let u = m .disks (b .drive) in
-      let s = trackOf p (b .address) .0 in
+      let s = trackOf p (b .address) in
       let fill = filling b p m in
       let lf = fill-sized b p entry buffer image m alike (force .within) in
       let ten = setting-ten (mediumOf (b .drive)) (entry .config) (length image) p (force .setting) in

@@ -140,10 +140,10 @@ module _ (b : Block) (given : List ℕ) (area : ℕ) (entry : Drive) (buffer ima
       sectors-outside : (command : SectorCommand) → rowFor (b .opcode) .command ≡ OnDisk (SectorWork command)
           → AfterIt (Valid p) (doSectors b p given entry buffer image command .image)
       unfolding doSectors read write transferred begun rowFor opcodeFor isAmong checkNumber bytesOf sizeIn
-      sectors-outside Read is = rw (read-image (countOf b) (b .address .0) p (begun image)) (outside-self low (Valid p) image)
+      sectors-outside Read is = rw (read-image (countOf b) (b .address) p (begun image)) (outside-self low (Valid p) image)
       sectors-outside Write is =
           let ours = clear p valid (OnDisk (SectorWork Write)) is in
-          outside-less low _ 16 front _ _ (writes p (w p valid) (countOf b) (b .address .0) given (begun image) (fits p valid)
+          outside-less low _ 16 front _ _ (writes p (w p valid) (countOf b) (b .address) given (begun image) (fits p valid)
           (count-cleared (w p valid) ours refl refl) (ours .enough) .outside)
 
       disk-outside : (command : DiskCommand) → rowFor (b .opcode) .command ≡ OnDisk command

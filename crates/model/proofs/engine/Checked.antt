@@ -1,5 +1,5 @@
 -- What it says of a command that its checks have passed: once for any row of the table that has the flag.
-use Prim.Native.Nat.{ℕ, zero, suc, _+_, _-_, _*_, _≤_, _<_}
+use Prim.Native.Nat.{ℕ, zero, suc, _+_, _-_, _≤_, _<_}
 use mathlib.Core.Path.{_≡_, refl, sym, subst, _∙_}
 use mathlib.Core.Logic.{_⊎_, inl, inr}
 use mathlib.Core.Bool.{Bool, true, false, not, _&&_, true≢false, false≢true}
@@ -14,7 +14,7 @@ use Rattle.base.proofs.Decide.{pick-true, pick-false}
 use Rattle.geometry.specs.declared.params.Params.{Params}
 use Rattle.geometry.specs.declared.config.Setting.{Setting}
 use Rattle.geometry.specs.declared.config.Setting.the-variants.{Valid}
-use Rattle.geometry.specs.Params.{Within, trackCount, trackOf, lastAddress}
+use Rattle.geometry.specs.Params.{Within, trackCount, trackOf, lastAddress, addressCount}
 use Rattle.geometry.proofs.Sizes.{sectors-some}
 use Rattle.geometry.proofs.Addresses.{track-in}
 use Rattle.model.specs.declared.block.Block.{Block}
@@ -140,7 +140,7 @@ module _ {e : TableRow} {b : Block} {p : Params} {pending : Bool} {given : ℕ} 
       (omega (arith, ltb-false (b .extra) 1 (o .0)), omega (arith, ltb-false (p .sectors - 1) (b .extra) (o .1), w .sectors-some))
 
   -- the address, and the last one of a count, is on the drive
-  pub reach-in : applies Address e ≡ true → 0 < reachOf (applies Counted e) b → b .address .0 + reachOf (applies Counted e) b ≤ trackCount p * p .sectors
+  pub reach-in : applies Address e ≡ true → 0 < reachOf (applies Counted e) b → b .address .0 + reachOf (applies Counted e) b ≤ addressCount p
   unfolding pastEnd
   reach-in flag some =
       omega (arith, ltb-false (lastAddress p .0) (b .address .0 + reachOf (applies Counted e) b - 1) (and-off (applies Address e) _ flag (clear .address)), sectors-some p w)
@@ -184,7 +184,7 @@ module _ {e : TableRow} {b : Block} {p : Params} {pending : Bool} {given : ℕ} 
       let one : reachOf (applies Counted e) b ≡ 1 = pick-false (applies Counted e) (countOf b) 1 once in
       track-in p w (b .address) (omega (arith, one, reach-in w clear flag (omega (arith, one))))
 
-  pub count-cleared : applies Address e ≡ true → applies Counted e ≡ true → b .address .0 + countOf b ≤ trackCount p * p .sectors
+  pub count-cleared : applies Address e ≡ true → applies Counted e ≡ true → b .address .0 + countOf b ≤ addressCount p
   unfolding reachOf
   count-cleared flag many =
       let all : reachOf (applies Counted e) b ≡ countOf b = pick-true (applies Counted e) (countOf b) 1 many in

@@ -14,6 +14,7 @@ use Rattle.geometry.specs.declared.params.Lba.{Lba}
 use Rattle.geometry.specs.declared.params.Params.{Params}
 use Rattle.geometry.specs.declared.config.Setting.{Setting}
 use Rattle.geometry.specs.declared.config.Setting.the-variants.{Valid, Invalid}
+use Rattle.geometry.specs.Params.{next}
 use Rattle.geometry.specs.Medium.{mediumOf}
 use Rattle.geometry.specs.Config.{labelHolds}
 use Rattle.track.specs.Find.{Sector, Slot, Fault}
@@ -122,23 +123,23 @@ own P drive entry keep after (fault code at) failing passing = failing code at
 own P drive entry keep after pass failing passing = passing
 
 -- ---- A Read changes no image, a Write hands nothing over
-pub read-image : (n a : ℕ) (p : Params) (x : Transfer) → reading p n a x .image ≡ x .image
+pub read-image : (n : ℕ) (a : Lba) (p : Params) (x : Transfer) → reading p n a x .image ≡ x .image
 unfolding reading onward ended readSlot
 read-image zero a p x = refl
-read-image (suc n) a p x = by (found p a (x .image)) (λ y. read-image n (suc a) p y)
+read-image (suc n) a p x = by (found p a (x .image)) (λ y. read-image n (next a) p y)
   where
-    by : (s : Sector) → ((y : Transfer) → reading p n (suc a) y .image ≡ y .image)
-        → onward x (λ t k. reading p n (suc a) (readSlot p x t k)) s .image ≡ x .image
+    by : (s : Sector) → ((y : Transfer) → reading p n (next a) y .image ≡ y .image)
+        → onward x (λ t k. reading p n (next a) (readSlot p x t k)) s .image ≡ x .image
     by (Fault code) rest = refl
     by (Slot t k) rest = rest (readSlot p x t k)
 
-write-handed : (n a : ℕ) (p : Params) (given : List ℕ) (x : Transfer) → writing p n a given x .handed ≡ x .handed
+write-handed : (n : ℕ) (a : Lba) (p : Params) (given : List ℕ) (x : Transfer) → writing p n a given x .handed ≡ x .handed
 unfolding writing onward ended writeSlot
 write-handed zero a p given x = refl
-write-handed (suc n) a p given x = by (found p a (x .image)) (λ y. write-handed n (suc a) p (drop (p .size) given) y)
+write-handed (suc n) a p given x = by (found p a (x .image)) (λ y. write-handed n (next a) p (drop (p .size) given) y)
   where
-    by : (s : Sector) → ((y : Transfer) → writing p n (suc a) (drop (p .size) given) y .handed ≡ y .handed)
-        → onward x (λ t k. writing p n (suc a) (drop (p .size) given) (writeSlot p (take (p .size) given) x t k)) s .handed ≡ x .handed
+    by : (s : Sector) → ((y : Transfer) → writing p n (next a) (drop (p .size) given) y .handed ≡ y .handed)
+        → onward x (λ t k. writing p n (next a) (drop (p .size) given) (writeSlot p (take (p .size) given) x t k)) s .handed ≡ x .handed
     by (Fault code) rest = refl
     by (Slot t k) rest = rest (writeSlot p (take (p .size) given) x t k)
 
@@ -215,7 +216,7 @@ module _ (b : Block) (given : List ℕ) (entry : Drive) (buffer image : List ℕ
     sectors-end : (command : SectorCommand) → LeavesAs (OnDisk (SectorWork command)) (doSectors b p given entry buffer image command)
     unfolding doSectors read write transferred begun Finishes
     sectors-end Read =
-        let x = reading p (countOf b) (b .address .0) (begun image) in
+        let x = reading p (countOf b) (b .address) (begun image) in
         let ends = finishes (x .done) (x .code) (length (x .handed)) (OnDisk (SectorWork Read)) in
         record {
           number = ends .0;
@@ -223,17 +224,17 @@ module _ (b : Block) (given : List ℕ) (entry : Drive) (buffer image : List ℕ
           makes = ends .2;
           fills = front _;
           hands = read-out _;
-          writes = rw (read-image (countOf b) (b .address .0) p (begun image)) untouched;
+          writes = rw (read-image (countOf b) (b .address) p (begun image)) untouched;
         }
     sectors-end Write =
-        let x = writing p (countOf b) (b .address .0) given (begun image) in
+        let x = writing p (countOf b) (b .address) given (begun image) in
         let ends = finishes (x .done) (x .code) (length (x .handed)) (OnDisk (SectorWork Write)) in
         record {
           number = ends .0;
           bytes = ends .1;
           makes = ends .2;
           fills = front _;
-          hands = rw (write-handed (countOf b) (b .address .0) p given (begun image)) nothing;
+          hands = rw (write-handed (countOf b) (b .address) p given (begun image)) nothing;
           writes = stored _;
         }
 

@@ -14,7 +14,7 @@ use Rattle.geometry.specs.declared.params.Params.{Params}
 use Rattle.geometry.specs.declared.medium.Medium.{Medium}
 use Rattle.geometry.specs.declared.config.Setting.{Setting}
 use Rattle.geometry.specs.declared.config.Setting.the-variants.{Valid, Invalid}
-use Rattle.geometry.specs.Params.{Within, trackCount, trackSize, imageLength, trackStart, trackOf}
+use Rattle.geometry.specs.Params.{Within, trackCount, trackSize, imageLength, trackStart, trackOf, nextTrack}
 use Rattle.geometry.specs.Medium.{mediumOf}
 use Rattle.geometry.specs.Config.{labelRest}
 use Rattle.geometry.proofs.Labels.{sixteen}
@@ -23,7 +23,6 @@ use Rattle.interleave.proofs.Layouts.{layout-length}
 use Rattle.track.specs.declared.state.State.{State}
 use Rattle.track.specs.declared.state.State.the-variants.{Sound, Moved, Taken}
 use Rattle.track.specs.Id.{idFor}
-use Rattle.track.specs.State.{track}
 use Rattle.track.specs.Image.{withTrack}
 use Rattle.formatter.specs.Format.{formatted, soundFrom}
 use Rattle.formatter.proofs.Formats.{length-slots}
@@ -86,13 +85,13 @@ module _ (low : ℕ) (front : low ≤ 16) (p : Params) (map fill : List ℕ) (lm
       → Outside low (Valid p) image (withTrack p t (formatted p t state map fill) image)
   formatted-outside image fits t state h = track-outside low p image fits front t (formatted p t state map fill) h (formatted-most t state)
 
-  sound-outside : (n t : ℕ) (image : List ℕ) → imageLength p ≤ length image → t + n ≤ trackCount p
+  sound-outside : (n : ℕ) (t : Track) (image : List ℕ) → imageLength p ≤ length image → t .0 + n ≤ trackCount p
       → Outside low (Valid p) image (soundFrom p map fill n t image)
   unfolding soundFrom
   sound-outside zero t image fits h = outside-self low (Valid p) image
   sound-outside (suc n) t image fits h =
-      let one = formatted-outside image fits (track t) Sound (omega arith) in
-      outside-then low (Valid p) image _ _ one (sound-outside n (t + 1) _ (rw (one .len) fits) (omega arith))
+      let one = formatted-outside image fits t Sound (omega arith) in
+      outside-then low (Valid p) image _ _ one (sound-outside n (nextTrack t) _ (rw (one .len) fits) (omega arith))
 
 -- ---- What fills a track is no longer than D
 take-most : (n : ℕ) (l : List ℕ) → length (take n l) ≤ n
@@ -130,11 +129,11 @@ module _ (low : ℕ) (front : low ≤ 16) (b : Block) (p : Params) (w : Within p
 
     -- the tracks from the block's to the last, then the label
     module _ (config fill : List ℕ) (ten : length config ≡ 10) (l : length fill ≤ p .size) (h : trackOf p (b .address) .0 < trackCount p) where
-      abbrev first : ℕ
-      first = trackOf p (b .address) .0
+      abbrev first : Track
+      first = trackOf p (b .address)
 
-      swept : Outside low (Valid p) image (soundFrom p (layoutOf (p .sectors) (b .extra)) fill (trackCount p - first) first image)
-      swept = sound-outside low front p (layoutOf (p .sectors) (b .extra)) fill map-length l (trackCount p - first) first image fits (omega arith)
+      swept : Outside low (Valid p) image (soundFrom p (layoutOf (p .sectors) (b .extra)) fill (trackCount p - first .0) first image)
+      swept = sound-outside low front p (layoutOf (p .sectors) (b .extra)) fill map-length l (trackCount p - first .0) first image fits (omega arith)
 
       pub drive-outside : low ≡ 0 → Outside low (Valid p) image (driveFormatted b p config fill image)
       unfolding driveFormatted

@@ -12,13 +12,14 @@ use Rattle.base.specs.Pick.{pick}
 use Rattle.base.specs.Part.{part}
 use Rattle.base.proofs.Decide.{pick-both}
 use Rattle.base.proofs.Bools.{not-false}
+use Rattle.geometry.specs.declared.params.Lba.{Lba}
 use Rattle.geometry.specs.declared.params.Track.{Track}
 use Rattle.geometry.specs.declared.params.Params.{Params}
 use Rattle.geometry.specs.declared.medium.Medium.{Medium}
 use Rattle.geometry.specs.declared.medium.Medium.the-variants.{HardDisk, Floppy}
 use Rattle.geometry.specs.declared.config.Setting.{Setting}
 use Rattle.geometry.specs.declared.config.Setting.the-variants.{Valid, Invalid}
-use Rattle.geometry.specs.Params.{Within, imageLength, trackCount}
+use Rattle.geometry.specs.Params.{Within, imageLength, trackCount, addressCount, further}
 use Rattle.geometry.specs.Medium.{mediumOf, isIn, rangesOf}
 use Rattle.geometry.specs.Config.{fieldsIn, settingBy, settingOf, labelSetting, labelHolds}
 use Rattle.track.specs.Find.{Slot, holds}
@@ -79,8 +80,8 @@ untouched : (b : Block) (given : List ℕ) (area : ℕ) (entry : Drive) (buffer 
 untouched b given area entry buffer image none = outside-kept b given area entry buffer image 0 (omega arith) (λ is. refl) .all none
 
 -- ---- (c) A Write changes only the data bytes of slots that it found: the label, every ID and all other data stay
-module _ (p : Params) (w : Within p) (n a : ℕ) (given image : List ℕ) (fits : imageLength p ≤ length image)
-    (inside : a + n ≤ trackCount p * p .sectors) (enough : n * p .size ≤ length given) where
+module _ (p : Params) (w : Within p) (n : ℕ) (a : Lba) (given image : List ℕ) (fits : imageLength p ≤ length image)
+    (inside : a .0 + n ≤ addressCount p) (enough : n * p .size ≤ length given) where
   abbrev after : List ℕ
   after = writing p n a given (begun image) .image
 
@@ -94,7 +95,7 @@ module _ (p : Params) (w : Within p) (n a : ℕ) (given image : List ℕ) (fits 
   ids-stay : (t : Track) (k : ℕ) → t .0 < trackCount p → k < p .sectors → slotId p k (trackBytes p t after) ≡ slotId p k (trackBytes p t image)
   ids-stay = all-written .ids
 
-  data-stay : (t : Track) (k : ℕ) → t .0 < trackCount p → k < p .sectors → ((i : ℕ) → i < n → found p (a + i) image ≡ Slot t k → ⊥)
+  data-stay : (t : Track) (k : ℕ) → t .0 < trackCount p → k < p .sectors → ((i : ℕ) → i < n → found p (further a i) image ≡ Slot t k → ⊥)
       → slotData p k (trackBytes p t after) ≡ slotData p k (trackBytes p t image)
   data-stay = all-written .others
 
@@ -103,7 +104,7 @@ module _ (p : Params) (w : Within p) (n a : ℕ) (given image : List ℕ) (fits 
       → holds p s (trackBytes p t image) j ≡ true → holds p s (trackBytes p t image) k ≡ true
       → slotData p k (trackBytes p t after) ≡ slotData p k (trackBytes p t image)
   second-stays t j k s ht l hk first second =
-      data-stay t k ht hk (λ i li here. true≢false (sym first ∙ found-first p (a + i) image t k here j s l second))
+      data-stay t k ht hk (λ i li here. true≢false (sym first ∙ found-first p (further a i) image t k here j s l second))
 
 -- ---- (d) Initialize leaves the images, those of hard disks and of floppies
 left-kept : (drive : ℕ) (e : Effect) (c : Controller) (area : List ℕ) (images : List (List ℕ)) → e .image ≡ imageOf drive images

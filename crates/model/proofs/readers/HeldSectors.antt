@@ -12,15 +12,13 @@ use Rattle.base.proofs.Decide.{pick-true, pick-false}
 use Rattle.geometry.specs.declared.params.Lba.{Lba}
 use Rattle.geometry.specs.declared.params.Track.{Track}
 use Rattle.geometry.specs.declared.params.Params.{Params}
-use Rattle.geometry.specs.Params.{trackOf}
+use Rattle.geometry.specs.Params.{trackOf, further, next}
+use Rattle.geometry.proofs.Addresses.{further-next}
 use Rattle.model.specs.declared.verdict.Verdict.{Verdict}
 use Rattle.model.specs.declared.verdict.Verdict.the-variants.{Faulty, Passed}
 use Rattle.model.specs.Checks.{judged}
 use Rattle.model.specs.Machine.{bad, taken, Disk, storing, isBad, isTaken, denied}
 use Rattle.model.specs.Machine.{Passage, finished, withFirst, passing, readFrom, writeFrom, inARow}
-
-abbrev pub lba : ℕ → Lba
-lba a = record { 0 = a }
 
 pub stops-bad : (a : Lba) → judged (denied bad a) ≡ Faulty 0x19 a
 unfolding judged denied isBad isTaken pick
@@ -52,32 +50,32 @@ stops v u x code at e = rw e
 
 module _ (p : Params) where
   -- what the state of the track of address a says
-  abbrev pub says : Disk → ℕ → Verdict
-  says u a = judged (denied (u .kind (trackOf p (lba a))) (lba a))
+  abbrev pub says : Disk → Lba → Verdict
+  says u a = judged (denied (u .kind (trackOf p a)) a)
 
-  says-stored : (a b : ℕ) (sector : List ℕ) (u : Disk) → says (storing (lba a) sector u) b ≡ says u b
+  says-stored : (a b : Lba) (sector : List ℕ) (u : Disk) → says (storing a sector u) b ≡ says u b
   unfolding storing
   says-stored a b sector u = refl
 
   -- ---- k sectors from address a on: as held, as given one after the other, and the disk with these stored
-  unfoldable pub heldFrom : (k a : ℕ) → Disk → List (List ℕ)
+  unfoldable pub heldFrom : (k : ℕ) → Lba → Disk → List (List ℕ)
   heldFrom zero a u = []
-  heldFrom (suc k) a u = u .held (lba a) ∷ heldFrom k (suc a) u
+  heldFrom (suc k) a u = u .held a ∷ heldFrom k (next a) u
 
   pub pieces : (k : ℕ) → (given : List ℕ) → List (List ℕ)
   pieces zero given = []
   pieces (suc k) given = take (p .size) given ∷ pieces k (drop (p .size) given)
 
-  pub storedFrom : (k a : ℕ) → (given : List ℕ) → Disk → Disk
+  pub storedFrom : (k : ℕ) → Lba → (given : List ℕ) → Disk → Disk
   storedFrom zero a given u = u
-  storedFrom (suc k) a given u = storedFrom k (suc a) (drop (p .size) given) (storing (lba a) (take (p .size) given) u)
+  storedFrom (suc k) a given u = storedFrom k (next a) (drop (p .size) given) (storing a (take (p .size) given) u)
 
   -- storing changes no track's state
-  pub says-kept : (k a : ℕ) (given : List ℕ) (u : Disk) (b : ℕ) → says (storedFrom k a given u) b ≡ says u b
+  pub says-kept : (k : ℕ) (a : Lba) (given : List ℕ) (u : Disk) (b : Lba) → says (storedFrom k a given u) b ≡ says u b
   unfolding storedFrom
   says-kept zero a given u b = refl
   says-kept (suc k) a given u b =
-      says-kept k (suc a) (drop (p .size) given) (storing (lba a) (take (p .size) given) u) b ∙ says-stored a b (take (p .size) given) u
+      says-kept k (next a) (drop (p .size) given) (storing a (take (p .size) given) u) b ∙ says-stored a b (take (p .size) given) u
 
   -- the sectors one after the other are the front of what was given
   pub pieces-row : (k : ℕ) (given : List ℕ) → inARow (pieces k given) ≡ take (k * p .size) given
@@ -92,94 +90,94 @@ module _ (p : Params) where
   pieces-length zero given = refl
   pieces-length (suc k) given = ap suc (pieces-length k (drop (p .size) given))
 
-  pub held-length : (k a : ℕ) (u : Disk) → length (heldFrom k a u) ≡ k
+  pub held-length : (k : ℕ) (a : Lba) (u : Disk) → length (heldFrom k a u) ≡ k
   unfolding heldFrom
   held-length zero a u = refl
-  held-length (suc k) a u = ap suc (held-length k (suc a) u)
+  held-length (suc k) a u = ap suc (held-length k (next a) u)
 
   -- an address has what was stored there, any other what it had
-  stored-same : (a : ℕ) (sector : List ℕ) (u : Disk) → storing (lba a) sector u .held (lba a) ≡ sector
+  stored-same : (a : Lba) (sector : List ℕ) (u : Disk) → storing a sector u .held a ≡ sector
   unfolding storing
-  stored-same a sector u = pick-true _ _ _ (eq-eqb a a refl)
+  stored-same a sector u = pick-true _ _ _ (eq-eqb (a .0) (a .0) refl)
 
-  pub stored-apart : (a : ℕ) (sector : List ℕ) (u : Disk) (b : Lba) → (b .0 ≡ a → ⊥) → storing (lba a) sector u .held b ≡ u .held b
+  pub stored-apart : (a : Lba) (sector : List ℕ) (u : Disk) (b : Lba) → (b .0 ≡ a .0 → ⊥) → storing a sector u .held b ≡ u .held b
   unfolding storing
-  stored-apart a sector u b ne = pick-false _ _ _ (ne-eqb (b .0) a ne)
+  stored-apart a sector u b ne = pick-false _ _ _ (ne-eqb (b .0) (a .0) ne)
 
-  stored-before : (k a : ℕ) (given : List ℕ) (u : Disk) (b : Lba) → b .0 < a → storedFrom k a given u .held b ≡ u .held b
+  stored-before : (k : ℕ) (a : Lba) (given : List ℕ) (u : Disk) (b : Lba) → b .0 < a .0 → storedFrom k a given u .held b ≡ u .held b
   unfolding storedFrom
   stored-before zero a given u b h = refl
   stored-before (suc k) a given u b h =
-      stored-before k (suc a) (drop (p .size) given) (storing (lba a) (take (p .size) given) u) b (omega arith)
+      stored-before k (next a) (drop (p .size) given) (storing a (take (p .size) given) u) b (omega arith)
       ∙ stored-apart a (take (p .size) given) u b (omega arith)
 
   -- what was stored is held
-  pub held-stored : (k a : ℕ) (given : List ℕ) (u : Disk) → heldFrom k a (storedFrom k a given u) ≡ pieces k given
+  pub held-stored : (k : ℕ) (a : Lba) (given : List ℕ) (u : Disk) → heldFrom k a (storedFrom k a given u) ≡ pieces k given
   unfolding heldFrom storedFrom pieces
   held-stored zero a given u = refl
   held-stored (suc k) a given u =
-      let v = storing (lba a) (take (p .size) given) u in
+      let v = storing a (take (p .size) given) u in
       ap₂ {C = List (List ℕ)} (λ x xs. x ∷ xs)
-      (stored-before k (suc a) (drop (p .size) given) v (lba a) (omega arith) ∙ stored-same a (take (p .size) given) u)
-      (held-stored k (suc a) (drop (p .size) given) v)
+      (stored-before k (next a) (drop (p .size) given) v a (omega arith) ∙ stored-same a (take (p .size) given) u)
+      (held-stored k (next a) (drop (p .size) given) v)
 
   -- ---- k sectors that pass are done, and m more are to come
-  shift : {A : Type 0} (f : ℕ → A) (a i : ℕ) → f (suc a + i) ≡ f (a + suc i)
-  shift f a i = let e : suc a + i ≡ a + suc i = omega arith in ap f e
+  shift : {A : Type 0} (f : Lba → A) (a : Lba) (i : ℕ) → f (further (next a) i) ≡ f (further a (suc i))
+  shift f a i = ap f (further-next a i)
 
-  first-says : (a : ℕ) (u : Disk) → says u (a + 0) ≡ Passed → says u a ≡ Passed
-  first-says a u e = rw (add-zero a) at e
+  first-says : (a : Lba) (u : Disk) → says u (further a 0) ≡ Passed → says u a ≡ Passed
+  first-says a u e = rw (add-zero (a .0)) at e
 
-  read-goes : (k m a : ℕ) (u : Disk) → ((i : ℕ) → i < k → says u (a + i) ≡ Passed)
-      → readFrom p (k + m) a u ≡ before (heldFrom k a u) (readFrom p m (a + k) u)
+  read-goes : (k m : ℕ) (a : Lba) (u : Disk) → ((i : ℕ) → i < k → says u (further a i) ≡ Passed)
+      → readFrom p (k + m) a u ≡ before (heldFrom k a u) (readFrom p m (further a k) u)
   unfolding readFrom heldFrom
   read-goes zero m a u h =
       let e : 0 + m ≡ m = omega arith in
-      rw (e, add-zero a) (sym (before-none (readFrom p m a u)))
+      rw (e, add-zero (a .0)) (sym (before-none (readFrom p m a u)))
   read-goes (suc k) m a u h =
       let e : suc k + m ≡ suc (k + m) = omega arith in
-      rw (e, ← shift (λ (i : ℕ). readFrom p m i u) a k)
+      rw (e, ← shift (λ (b : Lba). readFrom p m b u) a k)
       (passes _ u _ (first-says a u (h 0 (omega arith)))
-      ∙ ap (withFirst (u .held (lba a))) (read-goes k m (suc a) u (λ i l. shift (says u) a i ∙ h (suc i) (omega arith)))
-      ∙ before-first (u .held (lba a)) (heldFrom k (suc a) u) (readFrom p m (suc a + k) u))
+      ∙ ap (withFirst (u .held a)) (read-goes k m (next a) u (λ i l. shift (says u) a i ∙ h (suc i) (omega arith)))
+      ∙ before-first (u .held a) (heldFrom k (next a) u) (readFrom p m (further (next a) k) u))
 
-  write-goes : (k m a : ℕ) (given : List ℕ) (u : Disk) → ((i : ℕ) → i < k → says u (a + i) ≡ Passed)
-      → writeFrom p (k + m) a given u ≡ before (pieces k given) (writeFrom p m (a + k) (drop (k * p .size) given) (storedFrom k a given u))
+  write-goes : (k m : ℕ) (a : Lba) (given : List ℕ) (u : Disk) → ((i : ℕ) → i < k → says u (further a i) ≡ Passed)
+      → writeFrom p (k + m) a given u ≡ before (pieces k given) (writeFrom p m (further a k) (drop (k * p .size) given) (storedFrom k a given u))
   unfolding writeFrom pieces storedFrom
   write-goes zero m a given u h =
       let e : 0 + m ≡ m = omega arith in
       let z : 0 * p .size ≡ 0 = zero-mul (p .size) in
-      rw (e, z, add-zero a) (sym (before-none (writeFrom p m a given u)))
+      rw (e, z, add-zero (a .0)) (sym (before-none (writeFrom p m a given u)))
   write-goes (suc k) m a given u h =
       let e : suc k + m ≡ suc (k + m) = omega arith in
-      let v = storing (lba a) (take (p .size) given) u in
+      let v = storing a (take (p .size) given) u in
       let rest = drop (p .size) given in
       let z : p .size + k * p .size ≡ suc k * p .size = omega arith in
       let d : drop (k * p .size) rest ≡ drop (suc k * p .size) given = drop-drop (k * p .size) (p .size) given ∙ ap (λ (i : ℕ). drop i given) z in
-      rw (e, ← shift (λ (i : ℕ). writeFrom p m i (drop (suc k * p .size) given) (storedFrom k (suc a) rest v)) a k, ← d)
+      rw (e, ← shift (λ (b : Lba). writeFrom p m b (drop (suc k * p .size) given) (storedFrom k (next a) rest v)) a k, ← d)
       (passes _ u _ (first-says a u (h 0 (omega arith)))
       ∙ ap (withFirst (take (p .size) given))
-      (write-goes k m (suc a) rest v (λ i l. says-stored a (suc a + i) (take (p .size) given) u ∙ shift (says u) a i ∙ h (suc i) (omega arith)))
-      ∙ before-first (take (p .size) given) (pieces k rest) (writeFrom p m (suc a + k) (drop (k * p .size) rest) (storedFrom k (suc a) rest v)))
+      (write-goes k m (next a) rest v (λ i l. says-stored a (further (next a) i) (take (p .size) given) u ∙ shift (says u) a i ∙ h (suc i) (omega arith)))
+      ∙ before-first (take (p .size) given) (pieces k rest) (writeFrom p m (further (next a) k) (drop (k * p .size) rest) (storedFrom k (next a) rest v)))
 
   -- ---- Where every sector passes, all are read as held, and written as given
   to-the-end : (sectors : List (List ℕ)) (end : Verdict) (u : Disk) → before sectors (finished end u) ≡ record { sectors = sectors; end = end; disk = u }
   unfolding before finished
   to-the-end sectors end u = ap (λ (s : List (List ℕ)). record { sectors = s; end = end; disk = u }) (append-nil sectors)
 
-  pub read-all : (n a : ℕ) (u : Disk) → ((i : ℕ) → i < n → says u (a + i) ≡ Passed)
+  pub read-all : (n : ℕ) (a : Lba) (u : Disk) → ((i : ℕ) → i < n → says u (further a i) ≡ Passed)
       → readFrom p n a u ≡ record { sectors = heldFrom n a u; end = Passed; disk = u }
   unfolding readFrom
   read-all n a u h = rw add-zero at (read-goes n 0 a u h) ∙ to-the-end (heldFrom n a u) Passed u
 
-  pub write-all : (n a : ℕ) (given : List ℕ) (u : Disk) → ((i : ℕ) → i < n → says u (a + i) ≡ Passed)
+  pub write-all : (n : ℕ) (a : Lba) (given : List ℕ) (u : Disk) → ((i : ℕ) → i < n → says u (further a i) ≡ Passed)
       → writeFrom p n a given u ≡ record { sectors = pieces n given; end = Passed; disk = storedFrom n a given u }
   unfolding writeFrom
   write-all n a given u h = rw add-zero at (write-goes n 0 a given u h) ∙ to-the-end (pieces n given) Passed (storedFrom n a given u)
 
   -- ---- The first that does not pass ends it: those before it are done, it is not
-  module _ (k n a : ℕ) (u : Disk) (less : k < n) (good : (i : ℕ) → i < k → says u (a + i) ≡ Passed)
-      (code : ℕ) (at : Lba) (fault : says u (a + k) ≡ Faulty code at) where
+  module _ (k n : ℕ) (a : Lba) (u : Disk) (less : k < n) (good : (i : ℕ) → i < k → says u (further a i) ≡ Passed)
+      (code : ℕ) (at : Lba) (fault : says u (further a k) ≡ Faulty code at) where
     left : k + suc (n - suc k) ≡ n
     left = omega arith
 
@@ -194,4 +192,4 @@ module _ (p : Params) where
     write-stops given =
         let v = storedFrom k a given u in
         ap (λ (i : ℕ). writeFrom p i a given u) (sym left) ∙ write-goes k (suc (n - suc k)) a given u good
-        ∙ ap (before (pieces k given)) (stops _ v _ code at (says-kept k a given u (a + k) ∙ fault)) ∙ to-the-end (pieces k given) (Faulty code at) v
+        ∙ ap (before (pieces k given)) (stops _ v _ code at (says-kept k a given u (further a k) ∙ fault)) ∙ to-the-end (pieces k given) (Faulty code at) v

@@ -12,7 +12,8 @@ use Rattle.base.proofs.Decide.{pick-true}
 use Rattle.geometry.specs.declared.params.Lba.{Lba}
 use Rattle.geometry.specs.declared.params.Track.{Track}
 use Rattle.geometry.specs.declared.params.Params.{Params}
-use Rattle.geometry.specs.Params.{trackOf}
+use Rattle.geometry.specs.Params.{trackOf, further, next}
+use Rattle.geometry.proofs.Addresses.{further-next}
 use Rattle.model.specs.declared.verdict.Verdict.{Verdict}
 use Rattle.model.specs.declared.verdict.Verdict.the-variants.{Refused, Faulty, Passed}
 use Rattle.model.specs.declared.block.Block.{Block}
@@ -24,7 +25,7 @@ use Rattle.model.specs.Machine.{Kind, bad, taken, Disk, Machine, changed
 use Rattle.model.specs.Machine.{readFrom, writeFrom, inARow, transferBy, transfer, read, write}
 use Rattle.model.specs.Claim.{isHeld}
 use Rattle.model.proofs.engine.Checked.{count-some}
-use Rattle.model.proofs.readers.HeldSectors.{lba, stops-bad, stops-taken, says, heldFrom, pieces, storedFrom, pieces-row, pieces-length}
+use Rattle.model.proofs.readers.HeldSectors.{stops-bad, stops-taken, says, heldFrom, pieces, storedFrom, pieces-row, pieces-length}
 use Rattle.model.proofs.readers.HeldSectors.{held-length, says-kept, stored-apart, held-stored, read-all, write-all, read-stops, write-stops}
 use Rattle.model.proofs.claim.Claimed.{held-passed}
 
@@ -62,17 +63,16 @@ transfer-fails b code at x handed m k e l = rw (e, l) (refl, pick-true _ _ _ (eq
 module _ (p : Params) where
   -- ---- Write, then Read
   -- a Write that ended well passed every sector
-  all-passed : (n a : ℕ) (given : List ℕ) (u : Disk) → writeFrom p n a given u .end ≡ Passed → (i : ℕ) → i < n → says p u (a + i) ≡ Passed
+  all-passed : (n : ℕ) (a : Lba) (given : List ℕ) (u : Disk) → writeFrom p n a given u .end ≡ Passed → (i : ℕ) → i < n → says p u (further a i) ≡ Passed
   unfolding writeFrom storing
   all-passed zero a given u e i h = absurd (omega arith)
   all-passed (suc n) a given u e zero h = rw add-zero (went-well _ u _ e .0)
   all-passed (suc n) a given u e (suc i) h =
       let rest = went-well _ u _ e .1 in
-      let z : suc a + i ≡ a + suc i = omega arith in
-      ap (says p u) (sym z)
-      ∙ all-passed n (suc a) (drop (p .size) given) (storing (lba a) (take (p .size) given) u) (sym (first-end _ _) ∙ rest) i (omega arith)
+      ap (says p u) (sym (further-next a i))
+      ∙ all-passed n (next a) (drop (p .size) given) (storing a (take (p .size) given) u) (sym (first-end _ _) ∙ rest) i (omega arith)
 
-  module _ (n a : ℕ) (given : List ℕ) (u : Disk) (well : writeFrom p n a given u .end ≡ Passed) where
+  module _ (n : ℕ) (a : Lba) (given : List ℕ) (u : Disk) (well : writeFrom p n a given u .end ≡ Passed) where
     -- the disk after the Write
     abbrev v : Disk
     v = writeFrom p n a given u .disk
@@ -82,7 +82,7 @@ module _ (p : Params) where
         let passed = all-passed n a given u well in
         subst (λ (x : Passage). readFrom p n a (x .disk) ≡ record { sectors = x .sectors; end = Passed; disk = x .disk })
         (sym (write-all p n a given u passed))
-        (read-all p n a (storedFrom p n a given u) (λ i h. says-kept p n a given u (a + i) ∙ passed i h)
+        (read-all p n a (storedFrom p n a given u) (λ i h. says-kept p n a given u (further a i) ∙ passed i h)
         ∙ ap (λ (s : List (List ℕ)). record { sectors = s; end = Passed; disk = storedFrom p n a given u }) (held-stored p n a given u))
 
     -- as bytes: the front of what was given
@@ -99,32 +99,32 @@ module _ (p : Params) where
   kept-by Q (Faulty code at) u sector x hu hx = hu
   kept-by Q Passed u sector x hu hx = hx
 
-  others-keep : (n a : ℕ) (given : List ℕ) (u : Disk) (b : Lba) → (b .0 < a) ⊎ (a + n ≤ b .0) → writeFrom p n a given u .disk .held b ≡ u .held b
+  others-keep : (n : ℕ) (a : Lba) (given : List ℕ) (u : Disk) (b : Lba) → (b .0 < a .0) ⊎ (a .0 + n ≤ b .0) → writeFrom p n a given u .disk .held b ≡ u .held b
   unfolding writeFrom finished
   others-keep zero a given u b h = refl
   others-keep (suc n) a given u b h =
       kept-by (λ x. x .held b ≡ u .held b) _ u _ _ refl
-      (others-keep n (suc a) (drop (p .size) given) (storing (lba a) (take (p .size) given) u) b (further h)
+      (others-keep n (next a) (drop (p .size) given) (storing a (take (p .size) given) u) b (past h)
       ∙ stored-apart p a (take (p .size) given) u b (apart h))
     where
-      further : (b .0 < a) ⊎ (a + suc n ≤ b .0) → (b .0 < suc a) ⊎ (suc a + n ≤ b .0)
-      further (inl l) = inl (omega arith)
-      further (inr l) = inr (omega arith)
+      past : (b .0 < a .0) ⊎ (a .0 + suc n ≤ b .0) → (b .0 < suc (a .0)) ⊎ (suc (a .0) + n ≤ b .0)
+      past (inl l) = inl (omega arith)
+      past (inr l) = inr (omega arith)
 
-      apart : (b .0 < a) ⊎ (a + suc n ≤ b .0) → b .0 ≡ a → ⊥
+      apart : (b .0 < a .0) ⊎ (a .0 + suc n ≤ b .0) → b .0 ≡ a .0 → ⊥
       apart (inl l) e = omega arith
       apart (inr l) e = omega arith
 
-  tracks-keep : (n a : ℕ) (given : List ℕ) (u : Disk)
+  tracks-keep : (n : ℕ) (a : Lba) (given : List ℕ) (u : Disk)
       → (writeFrom p n a given u .disk .kind ≡ u .kind) × (writeFrom p n a given u .disk .inter ≡ u .inter)
   unfolding writeFrom finished storing
   tracks-keep zero a given u = (refl, refl)
   tracks-keep (suc n) a given u =
       kept-by (λ x. (x .kind ≡ u .kind) × (x .inter ≡ u .inter)) _ u _ _ (refl, refl)
-      (tracks-keep n (suc a) (drop (p .size) given) (storing (lba a) (take (p .size) given) u))
+      (tracks-keep n (next a) (drop (p .size) given) (storing a (take (p .size) given) u))
 
   -- ---- Sound and moved tracks alike: what is read and written there does not depend on which of the two a track is
-  module _ (n a : ℕ) (u : Disk) (held : (i : ℕ) → i < n → isHeld (u .kind (trackOf p (lba (a + i)))) ≡ true) where
+  module _ (n : ℕ) (a : Lba) (u : Disk) (held : (i : ℕ) → i < n → isHeld (u .kind (trackOf p (further a i))) ≡ true) where
     held-read : readFrom p n a u ≡ record { sectors = heldFrom p n a u; end = Passed; disk = u }
     held-read = read-all p n a u (λ i h. held-passed _ _ (held i h))
 
@@ -132,30 +132,30 @@ module _ (p : Params) where
     held-written given = write-all p n a given u (λ i h. held-passed _ _ (held i h))
 
   -- ---- The first sector k on a bad or taken track ends it: k sectors are done, and its own address goes with its code
-  module _ (k n a : ℕ) (u : Disk) (less : k < n) (held : (i : ℕ) → i < k → isHeld (u .kind (trackOf p (lba (a + i)))) ≡ true)
-      (code : ℕ) (here : Denied (u .kind (trackOf p (lba (a + k)))) code) where
-    read-ends : readFrom p n a u ≡ record { sectors = heldFrom p k a u; end = Faulty code (lba (a + k)); disk = u }
-    read-ends = read-stops p k n a u less (λ i h. held-passed _ _ (held i h)) code (lba (a + k)) (denied-says here (lba (a + k)))
+  module _ (k n : ℕ) (a : Lba) (u : Disk) (less : k < n) (held : (i : ℕ) → i < k → isHeld (u .kind (trackOf p (further a i))) ≡ true)
+      (code : ℕ) (here : Denied (u .kind (trackOf p (further a k))) code) where
+    read-ends : readFrom p n a u ≡ record { sectors = heldFrom p k a u; end = Faulty code (further a k); disk = u }
+    read-ends = read-stops p k n a u less (λ i h. held-passed _ _ (held i h)) code (further a k) (denied-says here (further a k))
 
     write-ends : (given : List ℕ)
-        → writeFrom p n a given u ≡ record { sectors = pieces p k given; end = Faulty code (lba (a + k)); disk = storedFrom p k a given u }
-    write-ends = write-stops p k n a u less (λ i h. held-passed _ _ (held i h)) code (lba (a + k)) (denied-says here (lba (a + k)))
+        → writeFrom p n a given u ≡ record { sectors = pieces p k given; end = Faulty code (further a k); disk = storedFrom p k a given u }
+    write-ends = write-stops p k n a u less (λ i h. held-passed _ _ (held i h)) code (further a k) (denied-says here (further a k))
 
   -- the same in the answers of the two commands, and in the sense that they leave
   module _ (b : Block) (m : Machine) (u : Disk) (k : ℕ) (less : k < countOf b)
-      (held : (i : ℕ) → i < k → isHeld (u .kind (trackOf p (lba (b .address .0 + i)))) ≡ true)
-      (code : ℕ) (here : Denied (u .kind (trackOf p (lba (b .address .0 + k)))) code) where
-    read-answer : Fails b code (lba (b .address .0 + k)) k (inARow (heldFrom p k (b .address .0) u)) (read b p m u)
+      (held : (i : ℕ) → i < k → isHeld (u .kind (trackOf p (further (b .address) i))) ≡ true)
+      (code : ℕ) (here : Denied (u .kind (trackOf p (further (b .address) k))) code) where
+    read-answer : Fails b code (further (b .address) k) k (inARow (heldFrom p k (b .address) u)) (read b p m u)
     unfolding read
     read-answer =
-        rw (read-ends k (countOf b) (b .address .0) u less held code here)
-        (transfer-fails b code (lba (b .address .0 + k)) _ (inARow (heldFrom p k (b .address .0) u)) m k refl (held-length p k (b .address .0) u))
+        rw (read-ends k (countOf b) (b .address) u less held code here)
+        (transfer-fails b code (further (b .address) k) _ (inARow (heldFrom p k (b .address) u)) m k refl (held-length p k (b .address) u))
 
-    write-answer : (given : List ℕ) → Fails b code (lba (b .address .0 + k)) k [] (write b p given m u)
+    write-answer : (given : List ℕ) → Fails b code (further (b .address) k) k [] (write b p given m u)
     unfolding write
     write-answer given =
-        rw (write-ends k (countOf b) (b .address .0) u less held code here given)
-        (transfer-fails b code (lba (b .address .0 + k)) _ [] m k refl (pieces-length p k given))
+        rw (write-ends k (countOf b) (b .address) u less held code here given)
+        (transfer-fails b code (further (b .address) k) _ [] m k refl (pieces-length p k given))
 
   -- so Read and Write on a bad track are 19h, on a taken one 1Ch, at once
   module _ (b : Block) (m : Machine) (u : Disk) (code : ℕ) (here : Denied (u .kind (trackOf p (b .address))) code) where

@@ -1,3 +1,5 @@
+use mathlib.Core.Path.{sym, _∙_}
+use borrow.Author.Tests.{ltb-false}
 use Rattle.formats.proofs.Makings.{bound-of}
 use Rattle.alternates.proofs.Assigns.{first-past, alternate-past, pair-judged, alternate-in}
 use borrow.Author.Needs.{needs}
@@ -10,10 +12,13 @@ returns c = first-past _ _ _ _ _ _ (c .if1 .taken)
 last-address-requires : tie.Need-last-address-requires
 last-address-requires c κs = search needs
 
+is-past-requires : tie.Need-is-past-requires
+is-past-requires c κs = search needs
+
 returns-2 : tie.Need-returns-2
 returns-2 c =
-    let bound = c .before .before .before in
-    alternate-past _ _ _ _ _ _ (bound .before .if1 .left) _ (bound .last-address .ensures) (c .if2 .taken)
+    let bound = c .before .before in
+    alternate-past _ _ _ _ _ _ (bound .before .if1 .left) _ (bound .last-address .ensures) (sym (c .before .is-past .ensures) ∙ c .if2 .taken)
 
 track-of-requires : tie.Need-track-of-requires
 track-of-requires c κs = search needs
@@ -23,14 +28,15 @@ track-of-requires-2 c κs = search needs
 
 state-of-requires : tie.Need-state-of-requires
 state-of-requires c κs =
-    let a = c .before .before .before .before .before .before .before .before in
+    let a = c .before .before .before .before .before .before .before in
     (a .pre .0, bound-of _ _ _ (c .before .track-of .ensures) (a .pre .1))
 
 state-of-requires-2 : tie.Need-state-of-requires-2
 state-of-requires-2 c κs =
     let tested = c .before .before .before in
-    let a = tested .before .before .before .before .before .before in
-    let in-drive = alternate-in _ (a .pre .0 .within) _ _ (tested .before .before .before .last-address .ensures) (tested .if2 .left) in
+    let bound = tested .before .before in
+    let a = bound .before .before .before in
+    let in-drive = alternate-in _ (a .pre .0 .within) _ _ (bound .last-address .ensures) (ltb-false _ _ (sym (tested .before .is-past .ensures) ∙ tested .if2 .left)) in
     (a .pre .0, bound-of _ _ _ (c .before .track-of2 .ensures) in-drive)
 
 is-moved-requires : tie.Need-is-moved-requires
@@ -38,6 +44,9 @@ is-moved-requires c κs = search needs
 
 is-taken-requires : tie.Need-is-taken-requires
 is-taken-requires c κs = search needs
+
+is-same-requires : tie.Need-is-same-requires
+is-same-requires c κs = search needs
 
 is-taken-requires-2 : tie.Need-is-taken-requires-2
 is-taken-requires-2 c κs = search needs
@@ -57,14 +66,14 @@ pair-faults-requires c κs = search needs
 returns-3 : tie.Need-returns-3
 returns-3 c =
     let away = c .before .before .before .before in
-    let moved = away .before .before .before .before in
+    let moved = away .before .before .before in
     let tracks = moved .before .before .before in
     let tested = tracks .before .before in
-    let bound = tested .before .before .before in
-    pair-judged _ _ _ _ _ (bound .before .if1 .left) _ (bound .last-address .ensures) (tested .if2 .left)
+    let bound = tested .before .before in
+    pair-judged _ _ _ _ _ (bound .before .if1 .left) _ (bound .last-address .ensures) (sym (tested .before .is-past .ensures) ∙ tested .if2 .left)
     _ _ (tracks .before .track-of .ensures) (tracks .track-of2 .ensures)
     _ _ (moved .before .before .state-of .ensures) (moved .before .state-of2 .ensures)
-    _ _ _ _ _ _ _ (moved .is-moved .ensures) (away .before .before .before .is-taken .ensures) (away .is-taken2 .ensures)
+    _ _ _ _ _ _ _ _ (moved .is-moved .ensures) (away .before .before .is-taken .ensures) (away .before .is-same .ensures) (away .is-taken2 .ensures)
     (c .before .before .before .is-moved2 .ensures) (c .before .before .is-bad .ensures) (c .before .either .ensures) (c .pair-faults .ensures)
 
 pub assign-faults-spec : {M : Type 1} → statement M
@@ -73,6 +82,7 @@ assign-faults-spec =
     (tie.spec
     returns
     last-address-requires
+    is-past-requires
     returns-2
     track-of-requires
     track-of-requires-2
@@ -80,6 +90,7 @@ assign-faults-spec =
     state-of-requires-2
     is-moved-requires
     is-taken-requires
+    is-same-requires
     is-taken-requires-2
     is-moved-requires-2
     is-bad-requires

@@ -1,19 +1,19 @@
-use borrow.Author.Needs.{needs}
 use Rattle.model.specs.Block.{alternateOf}
+use borrow.Author.Needs.{needs}
 use Rattle.checks.proofs.block.alternate_of.Statement.{statement}
 use Rattle.checks.proofs.block.alternate_of.Tie as tie
 
-shared-slice-read-lba-of : tie.Need-shared-slice-read-lba-of
-shared-slice-read-lba-of c = search needs
+shared-slice-read-of-bytes : tie.Need-shared-slice-read-of-bytes
+shared-slice-read-of-bytes c = search needs
 
-shared-slice-read-lba-of-2 : tie.Need-shared-slice-read-lba-of-2
-shared-slice-read-lba-of-2 c = search needs
+shared-slice-read-of-bytes-2 : tie.Need-shared-slice-read-of-bytes-2
+shared-slice-read-of-bytes-2 c = search needs
 
-shared-slice-read-lba-of-3 : tie.Need-shared-slice-read-lba-of-3
-shared-slice-read-lba-of-3 c = search needs
+shared-slice-read-of-bytes-3 : tie.Need-shared-slice-read-of-bytes-3
+shared-slice-read-of-bytes-3 c = search needs
 
-lba-of-requires : tie.Need-lba-of-requires
-lba-of-requires c κs = search needs
+of-bytes-requires : tie.Need-of-bytes-requires
+of-bytes-requires c κs = search needs
 
 returns : tie.Need-returns
 unfolding alternateOf
@@ -23,8 +23,8 @@ pub alternate-of-spec : {M : Type 1} → statement M
 alternate-of-spec =
     tie.close
     (tie.spec
-    shared-slice-read-lba-of
-    shared-slice-read-lba-of-2
-    shared-slice-read-lba-of-3
-    lba-of-requires
+    shared-slice-read-of-bytes
+    shared-slice-read-of-bytes-2
+    shared-slice-read-of-bytes-3
+    of-bytes-requires
     returns)

@@ -1,5 +1,5 @@
-use borrow.Author.Needs.{needs}
 use Rattle.model.specs.Block.{blockOf}
+use borrow.Author.Needs.{needs}
 use Rattle.checks.proofs.block.decode.Statement.{statement}
 use Rattle.checks.proofs.block.decode.Tie as tie
 
@@ -9,14 +9,14 @@ shared-slice-read-high c = search needs
 shared-slice-read-t4 : tie.Need-shared-slice-read-t4
 shared-slice-read-t4 c = search needs
 
-shared-slice-read-lba-of : tie.Need-shared-slice-read-lba-of
-shared-slice-read-lba-of c = search needs
+shared-slice-read-of-bytes : tie.Need-shared-slice-read-of-bytes
+shared-slice-read-of-bytes c = search needs
 
-shared-slice-read-lba-of-2 : tie.Need-shared-slice-read-lba-of-2
-shared-slice-read-lba-of-2 c = search needs
+shared-slice-read-of-bytes-2 : tie.Need-shared-slice-read-of-bytes-2
+shared-slice-read-of-bytes-2 c = search needs
 
-lba-of-requires : tie.Need-lba-of-requires
-lba-of-requires c κs = search needs
+of-bytes-requires : tie.Need-of-bytes-requires
+of-bytes-requires c κs = search needs
 
 shared-slice-read-t16 : tie.Need-shared-slice-read-t16
 shared-slice-read-t16 c = search needs
@@ -26,7 +26,7 @@ shared-slice-read-t18 c = search needs
 
 returns : tie.Need-returns
 unfolding blockOf
-returns c = search (needs, c .before .before .lba-of .ensures)
+returns c = search (needs, c .before .before .of-bytes .ensures)
 
 pub decode-spec : {M : Type 1} → statement M
 decode-spec =
@@ -34,9 +34,9 @@ decode-spec =
     (tie.spec
     shared-slice-read-high
     shared-slice-read-t4
-    shared-slice-read-lba-of
-    shared-slice-read-lba-of-2
-    lba-of-requires
+    shared-slice-read-of-bytes
+    shared-slice-read-of-bytes-2
+    of-bytes-requires
     shared-slice-read-t16
     shared-slice-read-t18
     returns)

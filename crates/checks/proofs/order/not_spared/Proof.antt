@@ -1,5 +1,5 @@
-use borrow.Author.Needs.{needs}
 use Rattle.model.specs.Checks.{withParams, notSpared}
+use borrow.Author.Needs.{needs}
 use Rattle.checks.proofs.order.not_spared.Statement.{statement}
 use Rattle.checks.proofs.order.not_spared.Tie as tie
 
@@ -9,6 +9,9 @@ enum-known-setting c = search needs
 track-of-requires : tie.Need-track-of-requires
 track-of-requires c κs = c .before .before .before .pre _ (c .before .setting .given .1)
 
+is-first-requires : tie.Need-is-first-requires
+is-first-requires c κs = search needs
+
 both-requires : tie.Need-both-requires
 both-requires c κs = search needs
 
@@ -17,7 +20,7 @@ enum-told c = search needs
 
 returns : tie.Need-returns
 unfolding withParams notSpared
-returns c = simp (c .both .ensures, c .before .before .track-of .ensures, c .before .before .before .before .setting .given .1)
+returns c = simp (c .both .ensures, c .before .is-first .ensures, c .before .before .track-of .ensures, c .before .before .before .before .setting .given .1)
 
 returns-2 : tie.Need-returns-2
 unfolding withParams
@@ -26,4 +29,11 @@ returns-2 c = simp (c .enum-told .given .1)
 pub not-spared-spec : {M : Type 1} → statement M
 not-spared-spec =
     tie.close
-    (tie.spec enum-known-setting track-of-requires both-requires enum-told returns returns-2)
+    (tie.spec
+    enum-known-setting
+    track-of-requires
+    is-first-requires
+    both-requires
+    enum-told
+    returns
+    returns-2)

@@ -1,5 +1,6 @@
+use Rattle.model.specs.Checks.{withParams}
+use Rattle.checks.proofs.Orders.{past-by}
 use borrow.Author.Needs.{needs}
-use Rattle.model.specs.Checks.{withParams, pastEnd}
 use Rattle.checks.proofs.order.past_end.Statement.{statement}
 use Rattle.checks.proofs.order.past_end.Tie as tie
 
@@ -9,21 +10,24 @@ enum-known-setting c = search needs
 last-address-requires : tie.Need-last-address-requires
 last-address-requires c κs = c .before .before .before .pre .0 _ (c .before .setting .given .1)
 
-cast-result : tie.Need-cast-result
-cast-result c = search needs
+sub-further : tie.Need-sub-further
+sub-further c = search needs
 
-add-result : tie.Need-add-result
-add-result c = search needs
+further-requires : tie.Need-further-requires
+further-requires c κs = search needs
 
-sub-result : tie.Need-sub-result
-sub-result c = search needs
+is-past-requires : tie.Need-is-past-requires
+is-past-requires c κs = search needs
 
 enum-told : tie.Need-enum-told
 enum-told c = search needs
 
 returns : tie.Need-returns
-unfolding withParams pastEnd
-returns c = simp (c .before .before .last-address .ensures, c .before .before .before .before .setting .given .1)
+unfolding withParams
+returns c =
+    let there = c .before .before in
+    rw (there .before .before .setting .given .1)
+    (past-by _ _ _ _ _ _ (there .before .before .before .before .pre .2) (there .last-address .ensures) (c .before .further .ensures) (c .is-past .ensures))
 
 returns-2 : tie.Need-returns-2
 unfolding withParams
@@ -35,9 +39,9 @@ past-end-spec =
     (tie.spec
     enum-known-setting
     last-address-requires
-    cast-result
-    add-result
-    sub-result
+    sub-further
+    further-requires
+    is-past-requires
     enum-told
     returns
     returns-2)

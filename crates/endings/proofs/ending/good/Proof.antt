@@ -1,7 +1,12 @@
-use borrow.Author.Needs.{needs}
+use Rattle.geometry.specs.declared.params.Lba.{Lba}
+use Rattle.geometry.proofs.Addresses.{same-lba}
 use Rattle.model.specs.Record.{good}
+use borrow.Author.Needs.{needs}
 use Rattle.endings.proofs.ending.good.Statement.{statement}
 use Rattle.endings.proofs.ending.good.Tie as tie
+
+zero-requires : tie.Need-zero-requires
+zero-requires c κs = search needs
 
 sense-of-requires : tie.Need-sense-of-requires
 sense-of-requires c κs = search needs
@@ -14,7 +19,9 @@ mul-t8 c = search needs
 
 returns : tie.Need-returns
 unfolding good
-returns c = simp (c .with-sense .ensures, c .before .sense-of .ensures)
+returns c =
+    let none : Lba = record { 0 = 0 } in
+    simp (c .with-sense .ensures, c .before .sense-of .ensures, same-lba _ none (c .before .before .zero .ensures))
 
 pub good-spec : {M : Type 1} → statement M
-good-spec = tie.close (tie.spec sense-of-requires with-sense-requires mul-t8 returns)
+good-spec = tie.close (tie.spec zero-requires sense-of-requires with-sense-requires mul-t8 returns)

@@ -1,6 +1,6 @@
-use borrow.Author.Needs.{needs}
 use Rattle.base.proofs.Decide.{decide}
 use Rattle.model.specs.Sense.{senseOf}
+use borrow.Author.Needs.{needs}
 use Rattle.endings.proofs.sense.sense_of.Statement.{statement}
 use Rattle.endings.proofs.sense.sense_of.Tie as tie
 
@@ -13,24 +13,26 @@ add-t5 c = search needs
 mul-t6 : tie.Need-mul-t6
 mul-t6 c = search needs
 
-cast-t8 : tie.Need-cast-t8
-cast-t8 c = search needs
+high-requires : tie.Need-high-requires
+high-requires c κs = search needs
 
-add-t9 : tie.Need-add-t9
-add-t9 c = search needs
+add-t8 : tie.Need-add-t8
+add-t8 c = search needs
 
-cast-t12 : tie.Need-cast-t12
-cast-t12 c = search needs
+middle-requires : tie.Need-middle-requires
+middle-requires c κs = search needs
 
-cast-t14 : tie.Need-cast-t14
-cast-t14 c = search needs
+low-requires : tie.Need-low-requires
+low-requires c κs = search needs
 
 returns : tie.Need-returns
 unfolding senseOf
-returns c = search (needs, decide, ← (c .before .before .before .before .is-addressed .ensures))
+returns c =
+    rw (c .before .before .high .ensures, c .before .middle .ensures, c .low .ensures)
+    (search (needs, decide, ← (c .before .before .before .before .is-addressed .ensures)))
 
-mul-t15 : tie.Need-mul-t15
-mul-t15 c = search needs
+mul-t11 : tie.Need-mul-t11
+mul-t11 c = search needs
 
 returns-2 : tie.Need-returns-2
 unfolding senseOf
@@ -43,10 +45,10 @@ sense-of-spec =
     is-addressed-requires
     add-t5
     mul-t6
-    cast-t8
-    add-t9
-    cast-t12
-    cast-t14
+    high-requires
+    add-t8
+    middle-requires
+    low-requires
     returns
-    mul-t15
+    mul-t11
     returns-2)

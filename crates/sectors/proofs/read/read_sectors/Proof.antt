@@ -3,16 +3,17 @@ use Prim.Native.Nat.{_+_, _-_, _*_, _≤_}
 use native.Mathlib.Omega.{arith}
 use lib.ListN.{length, length-take, length-drop}
 use Rattle.geometry.proofs.Sizes.{sectors-most}
+use Rattle.sectors.proofs.Founds.{further-on-drive}
 use Rattle.sectors.proofs.ReadLoops.{Reading, reading-none, reading-room, reading-all, reading-most, reading-stop, reading-whole, reading-more}
 use borrow.Author.Needs.{needs}
 use Rattle.sectors.proofs.read.read_sectors.Statement.{statement}
 use Rattle.sectors.proofs.read.read_sectors.Tie as tie
 
 abbrev Inv-loop : tie.InvT-loop
-Inv-loop image p n area₀ size first i₀ at₀ area i at = Reading p n first image area₀ area i at
+Inv-loop image p a n area₀ size i₀ at₀ area i at = Reading p n a image area₀ area i at
 
 abbrev μ-loop : tie.MeasureT-loop
-μ-loop image p n area₀ size first i₀ at₀ area i at = n - i
+μ-loop image p a n area₀ size i₀ at₀ area i at = n - i
 
 loop-holds : tie.Need-loop-holds Inv-loop μ-loop
 loop-holds c = reading-none _ _ _ _ _
@@ -21,11 +22,8 @@ loop-holds c = reading-none _ _ _ _ _
 address : (c : tie.In-loop Inv-loop μ-loop) → c .before .before .before .before .args .a .0 + c .before .loop .i ≤ 229375
 address c = let a = c .before .before .before .before in omega (arith, a .pre .1, c .loop-test .taken, sectors-most (a .args .p) (a .pre .0 .within))
 
-cast-t15 : tie.Need-cast-t15 Inv-loop μ-loop
-cast-t15 c = omega (arith, address c)
-
-add-t16 : tie.Need-add-t16 Inv-loop μ-loop
-add-t16 c = omega (arith, address c)
+further-requires : tie.Need-further-requires Inv-loop μ-loop
+further-requires c κs = omega (arith, address c)
 
 sub-sectors-here : tie.Need-sub-sectors-here Inv-loop μ-loop
 sub-sectors-here c = search needs
@@ -35,15 +33,15 @@ sectors-here-requires c κs = search needs
 
 -- the sectors here are among those left, and their places within the area
 left : (c : tie.After-sectors-here Inv-loop μ-loop)
-    → c .before .before .loop .i + c .sectors-here .result ≤ c .before .before .before .before .before .args .n
-left c = omega (arith, c .before .loop-test .taken, c .sectors-here .ensures .2)
+    → c .before .before .before .loop .i + c .sectors-here .result ≤ c .before .before .before .before .before .before .args .n
+left c = omega (arith, c .before .before .loop-test .taken, c .sectors-here .ensures .2)
 
 room : (c : tie.After-sectors-here Inv-loop μ-loop)
-    → c .before .before .loop .at + c .sectors-here .result * c .before .before .before .before .before .args .p .size
-    ≤ length (c .before .before .loop .area)
+    → c .before .before .before .loop .at + c .sectors-here .result * c .before .before .before .before .before .before .args .p .size
+    ≤ length (c .before .before .before .loop .area)
 room c =
-    let a = c .before .before .before .before .before in
-    reading-room _ _ _ _ _ _ _ _ (c .before .before .loop .inv) (a .pre .0) (a .pre .1) (a .pre .2) _ (left c)
+    let a = c .before .before .before .before .before .before in
+    reading-room _ _ _ _ _ _ _ _ (c .before .before .before .loop .inv) (a .pre .0) (a .pre .1) (a .pre .2) _ (left c)
 
 mul-end : tie.Need-mul-end Inv-loop μ-loop
 mul-end c = omega (arith, room c)
@@ -63,9 +61,9 @@ part-read-part-end c = room c
 read-part-requires : tie.Need-read-part-requires Inv-loop μ-loop
 read-part-requires c κs =
     let here = c .before in
-    let a = here .before .before .before .before .before in (
+    let a = here .before .before .before .before .before .before in (
       a .pre .0,
-      omega (arith, a .pre .1, here .before .loop-test .taken),
+      further-on-drive (a .args .p) _ _ _ _ (a .pre .1) (here .before .before .loop-test .taken) (here .before .further .ensures),
       here .sectors-here .ensures .1,
       here .sectors-here .ensures .3,
       simp (length-take, length-drop) (omega (arith, room here)),
@@ -74,9 +72,9 @@ read-part-requires c κs =
 add-i : tie.Need-add-i Inv-loop μ-loop
 add-i c =
     let here = c .before .before .before .before .before in
-    let a = here .before .before .before .before .before in
-    let most = reading-most _ _ _ _ _ _ _ _ (here .before .before .loop .inv) (a .pre .0) (a .pre .1) (a .pre .2) _ (left here)
-    _ _ _ refl (c .before .before .before .read-part .ensures) in
+    let a = here .before .before .before .before .before .before in
+    let most = reading-most _ _ _ _ _ _ _ _ (here .before .before .before .loop .inv) (a .pre .0) (a .pre .1) (a .pre .2) _ (left here)
+    _ (here .before .further .ensures) _ _ _ refl (c .before .before .before .read-part .ensures) in
     omega (arith, most)
 
 same-length : tie.Need-same-length Inv-loop μ-loop
@@ -85,24 +83,24 @@ same-length c = search needs
 returns : tie.Need-returns Inv-loop μ-loop
 returns c =
     let here = c .before .before .before .before .before .before .before in
-    let a = here .before .before .before .before .before in
-    reading-stop _ _ _ _ _ _ _ _ (here .before .before .loop .inv) (a .pre .0) (a .pre .1) (a .pre .2) _ (left here)
-    _ _ _ refl (c .before .before .before .before .before .read-part .ensures) (c .if1 .taken)
+    let a = here .before .before .before .before .before .before in
+    reading-stop _ _ _ _ _ _ _ _ (here .before .before .before .loop .inv) (a .pre .0) (a .pre .1) (a .pre .2) _ (left here)
+    _ (here .before .further .ensures) _ _ _ refl (c .before .before .before .before .before .read-part .ensures) (c .if1 .taken)
 
 loop-less : tie.Need-loop-less Inv-loop μ-loop
 loop-less c =
     let here = c .before .before .before .before .before .before .before in
-    let a = here .before .before .before .before .before in
-    let whole = reading-whole _ _ _ _ _ _ _ _ (here .before .before .loop .inv) (a .pre .0) (a .pre .1) (a .pre .2) _ (left here)
-    _ _ _ refl (c .before .before .before .before .before .read-part .ensures) (c .if1 .left) in
-    omega (arith, whole, here .before .loop-test .taken, here .sectors-here .ensures .1)
+    let a = here .before .before .before .before .before .before in
+    let whole = reading-whole _ _ _ _ _ _ _ _ (here .before .before .before .loop .inv) (a .pre .0) (a .pre .1) (a .pre .2) _ (left here)
+    _ (here .before .further .ensures) _ _ _ refl (c .before .before .before .before .before .read-part .ensures) (c .if1 .left) in
+    omega (arith, whole, here .before .before .loop-test .taken, here .sectors-here .ensures .1)
 
 loop-again : tie.Need-loop-again Inv-loop μ-loop
 loop-again c =
     let here = c .before .before .before .before .before .before .before in
-    let a = here .before .before .before .before .before in
-    reading-more _ _ _ _ _ _ _ _ (here .before .before .loop .inv) (a .pre .0) (a .pre .1) (a .pre .2) _ (left here)
-    _ _ _ refl (c .before .before .before .before .before .read-part .ensures) (c .if1 .left)
+    let a = here .before .before .before .before .before .before in
+    reading-more _ _ _ _ _ _ _ _ (here .before .before .before .loop .inv) (a .pre .0) (a .pre .1) (a .pre .2) _ (left here)
+    _ (here .before .further .ensures) _ _ _ refl (c .before .before .before .before .before .read-part .ensures) (c .if1 .left)
 
 same-length-2 : tie.Need-same-length-2 Inv-loop μ-loop
 same-length-2 c = search needs
@@ -117,8 +115,7 @@ read-sectors-spec =
     Inv-loop
     μ-loop
     loop-holds
-    cast-t15
-    add-t16
+    further-requires
     sub-sectors-here
     sectors-here-requires
     mul-end

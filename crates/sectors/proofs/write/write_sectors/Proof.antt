@@ -3,6 +3,7 @@ use mathlib.Core.Path.{_≡_}
 use native.Mathlib.Omega.{arith}
 use lib.ListN.{length, length-take, length-drop}
 use Rattle.geometry.proofs.Sizes.{sectors-most}
+use Rattle.sectors.proofs.Founds.{further-on-drive}
 use Rattle.sectors.proofs.WriteLoops.{written-most, written-all}
 use Rattle.sectors.proofs.WriteLoops.{Writing, writing-none, writing-fits, writing-room, writing-all, writing-stop, writing-more}
 use borrow.Author.Needs.{needs}
@@ -10,10 +11,10 @@ use Rattle.sectors.proofs.write.write_sectors.Statement.{statement}
 use Rattle.sectors.proofs.write.write_sectors.Tie as tie
 
 abbrev Inv-loop : tie.InvT-loop
-Inv-loop image₀ p n given size first i₀ at₀ image i at = Writing p n first given image₀ image i at
+Inv-loop image₀ p a n given size i₀ at₀ image i at = Writing p n a given image₀ image i at
 
 abbrev μ-loop : tie.MeasureT-loop
-μ-loop image₀ p n given size first i₀ at₀ image i at = n - i
+μ-loop image₀ p a n given size i₀ at₀ image i at = n - i
 
 loop-holds : tie.Need-loop-holds Inv-loop μ-loop
 loop-holds c = writing-none _ _ _ _ _
@@ -24,25 +25,22 @@ address c =
     let a = c .before .before .before .before in
     omega (arith, a .pre .1, c .loop-test .taken, sectors-most (a .args .p) (a .pre .0 .within))
 
-cast-t15 : tie.Need-cast-t15 Inv-loop μ-loop
-cast-t15 c = omega (arith, address c)
-
-add-t16 : tie.Need-add-t16 Inv-loop μ-loop
-add-t16 c = omega (arith, address c)
+further-requires : tie.Need-further-requires Inv-loop μ-loop
+further-requires c κs = omega (arith, address c)
 
 sub-sectors-here : tie.Need-sub-sectors-here Inv-loop μ-loop
-sub-sectors-here c = omega (arith, c .loop-test .taken)
+sub-sectors-here c = omega (arith, c .before .loop-test .taken)
 
 sectors-here-requires : tie.Need-sectors-here-requires Inv-loop μ-loop
-sectors-here-requires c κs = (c .before .before .before .before .pre .0 .within, omega (arith, c .loop-test .taken))
+sectors-here-requires c κs = (c .before .before .before .before .before .pre .0 .within, omega (arith, c .before .loop-test .taken))
 
 -- the part is within what is given
 room : (c : tie.After-sectors-here Inv-loop μ-loop)
-    → c .before .before .loop .at + c .sectors-here .result * c .before .before .before .before .before .args .p .size
-    ≤ length (c .before .before .before .before .before .args .given .now)
+    → c .before .before .before .loop .at + c .sectors-here .result * c .before .before .before .before .before .before .args .p .size
+    ≤ length (c .before .before .before .before .before .before .args .given .now)
 room c =
-    let a = c .before .before .before .before .before in
-    writing-room _ _ _ _ _ _ _ _ (c .before .before .loop .inv) _ (c .sectors-here .ensures .2) (a .pre .2)
+    let a = c .before .before .before .before .before .before in
+    writing-room _ _ _ _ _ _ _ _ (c .before .before .before .loop .inv) _ (c .sectors-here .ensures .2) (a .pre .2)
 
 mul-end : tie.Need-mul-end Inv-loop μ-loop
 mul-end c = omega (arith, room c)
@@ -62,9 +60,9 @@ part-write-part-end c = room (c .before)
 write-part-requires : tie.Need-write-part-requires Inv-loop μ-loop
 write-part-requires c κs =
     let k = c .before .before in
-    let a = k .before .before .before .before .before in (
-      writing-fits _ _ _ _ _ _ _ _ (k .before .before .loop .inv) (a .pre .0),
-      omega (arith, a .pre .1, k .before .loop-test .taken),
+    let a = k .before .before .before .before .before .before in (
+      writing-fits _ _ _ _ _ _ _ _ (k .before .before .before .loop .inv) (a .pre .0),
+      further-on-drive (a .args .p) _ _ _ _ (a .pre .1) (k .before .before .loop-test .taken) (k .before .further .ensures),
       k .sectors-here .ensures .1,
       k .sectors-here .ensures .3,
       simp (length-take, length-drop) (omega (arith, room k)),
@@ -73,7 +71,7 @@ write-part-requires c κs =
 add-i : tie.Need-add-i Inv-loop μ-loop
 add-i c =
     let k = c .before .before .before .before .before .before in
-    omega (arith, written-most _ _ _ _ _ _ _ (c .before .before .before .write-part .ensures), k .sectors-here .ensures .2, k .before .loop-test .taken)
+    omega (arith, written-most _ _ _ _ _ _ _ (c .before .before .before .write-part .ensures), k .sectors-here .ensures .2, k .before .before .loop-test .taken)
 
 same-length : tie.Need-same-length Inv-loop μ-loop
 same-length c = search needs
@@ -82,21 +80,21 @@ returns : tie.Need-returns Inv-loop μ-loop
 returns c =
     let w = c .before .before .before .before .before in
     let k = w .before .before .before in
-    writing-stop _ _ _ _ _ _ _ _ (k .before .before .loop .inv) _ (k .sectors-here .ensures .2) _ _ (w .write-part .ensures) (c .if1 .taken)
+    writing-stop _ _ _ _ _ _ _ _ (k .before .before .before .loop .inv) _ (k .sectors-here .ensures .2) _ (k .before .further .ensures) _ _ (w .write-part .ensures) (c .if1 .taken)
 
 loop-less : tie.Need-loop-less Inv-loop μ-loop
 loop-less c =
     let w = c .before .before .before .before .before in
     let k = w .before .before .before in
     let all = written-all _ _ _ _ _ _ _ (w .write-part .ensures) (c .if1 .left) in
-    omega (arith, all, k .sectors-here .ensures .1, k .before .loop-test .taken)
+    omega (arith, all, k .sectors-here .ensures .1, k .before .before .loop-test .taken)
 
 loop-again : tie.Need-loop-again Inv-loop μ-loop
 loop-again c =
     let w = c .before .before .before .before .before in
     let k = w .before .before .before in
-    let long : length (w .write-part .last .0) ≡ length (k .before .before .loop .image) = search needs in
-    writing-more _ _ _ _ _ _ _ _ (k .before .before .loop .inv) _ (k .sectors-here .ensures .2) _ _ (w .write-part .ensures) (c .if1 .left) long
+    let long : length (w .write-part .last .0) ≡ length (k .before .before .before .loop .image) = search needs in
+    writing-more _ _ _ _ _ _ _ _ (k .before .before .before .loop .inv) _ (k .sectors-here .ensures .2) _ (k .before .further .ensures) _ _ (w .write-part .ensures) (c .if1 .left) long
 
 same-length-2 : tie.Need-same-length-2 Inv-loop μ-loop
 same-length-2 c = search needs
@@ -111,8 +109,7 @@ write-sectors-spec =
     Inv-loop
     μ-loop
     loop-holds
-    cast-t15
-    add-t16
+    further-requires
     sub-sectors-here
     sectors-here-requires
     mul-end

@@ -33,12 +33,15 @@ shared-slice-read-two-bytes-4 c = search needs
 two-bytes-requires-2 : tie.Need-two-bytes-requires-2
 two-bytes-requires-2 c κs = search needs
 
-cast-t20 : tie.Need-cast-t20
-cast-t20 c = search needs
+cast-numbered : tie.Need-cast-numbered
+cast-numbered c = search needs
+
+numbered-requires : tie.Need-numbered-requires
+numbered-requires c κs = search needs
 
 returns : tie.Need-returns
 unfolding idIn
-returns c = rw (c .before .before .before .before .before .before .two-bytes .ensures, c .two-bytes2 .ensures)
+returns c = rw (c .before .before .before .before .before .before .before .two-bytes .ensures, c .numbered .ensures, c .before .two-bytes2 .ensures)
 
 pub read-id-spec : {M : Type 1} → statement M
 read-id-spec =
@@ -54,5 +57,6 @@ read-id-spec =
     shared-slice-read-two-bytes-3
     shared-slice-read-two-bytes-4
     two-bytes-requires-2
-    cast-t20
+    cast-numbered
+    numbered-requires
     returns)
