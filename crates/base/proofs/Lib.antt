@@ -1,5 +1,6 @@
 pub mod Decide
 pub mod Parts
+pub mod Splices
 pub mod Firsts
 pub mod Sames
 pub mod Copies

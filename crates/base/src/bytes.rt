@@ -5,8 +5,8 @@ ghost use lib.ListN.{length};
 ghost use Rattle.base.specs.Part.{splice};
 ghost use Rattle.base.specs.Same.{sameBytes};
 
-// All of src into dst, which is as long, byte after byte.
-fn copy_each(dst: &mut [u8], src: &[u8])
+// All of src into dst, which is as long.
+pub fn copy_bytes(dst: &mut [u8], src: &[u8])
     requires { ⌜ length (now dst) ≡ length (now src) ⌝ }
     ensures { λ _. ⌜ now (dst .exit) ≡ now (src .entry) ⌝ }
 {
@@ -15,22 +15,6 @@ fn copy_each(dst: &mut [u8], src: &[u8])
         dst[i] = src[i];
         i += 1;
     }
-}
-
-// All of src into dst, which is as long. Up to 512 bytes go through a local array: LLVM, which is not told that dst and src
-// are apart, then makes one memmove of the two loops.
-pub fn copy_bytes(dst: &mut [u8], src: &[u8])
-    requires { ⌜ length (now dst) ≡ length (now src) ⌝ }
-    ensures { λ _. ⌜ now (dst .exit) ≡ now (src .entry) ⌝ }
-{
-    let n = src.len();
-    if 512 < n {
-        copy_each(dst, src);
-        return;
-    }
-    let mut room = [0u8; 512];
-    copy_each(&mut room[0..n], src);
-    copy_each(dst, &room[0..n]);
 }
 
 // Whether two slices of one length hold the same bytes.

@@ -1,4 +1,5 @@
 pub mod engine
+pub mod records
 pub mod claim
 pub mod readers
 pub mod anchors

@@ -8,3 +8,4 @@ pub mod Damage
 pub mod Session
 pub mod Floppies
 pub mod Examples
+pub mod Records

@@ -6,6 +6,7 @@ pub mod Record
 pub mod Commands
 pub mod Engine
 pub mod Premises
+pub mod Records
 pub mod Feed
 pub mod Machine
 pub mod Claim

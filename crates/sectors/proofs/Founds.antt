@@ -21,13 +21,13 @@ use Rattle.track.proofs.Used.{used-holds, used-first, holds-one}
 use Rattle.sectors.specs.Transfer.{found}
 
 -- ---- sectors told apart
-slot-fault : (u : Track) (k code : ℕ) → Slot u k ≡ Fault code → ⊥
+pub slot-fault : (u : Track) (k code : ℕ) → Slot u k ≡ Fault code → ⊥
 slot-fault u k code e = let z : _≡_ {A = ℕ} 0 1 = cc in omega arith
 
-slot-track : (u v : Track) (k j : ℕ) → Slot u k ≡ Slot v j → u ≡ v
+pub slot-track : (u v : Track) (k j : ℕ) → Slot u k ≡ Slot v j → u ≡ v
 slot-track u v k j e = cc
 
-slot-number : (u v : Track) (k j : ℕ) → Slot u k ≡ Slot v j → k ≡ j
+pub slot-number : (u v : Track) (k j : ℕ) → Slot u k ≡ Slot v j → k ≡ j
 slot-number u v k j e = cc
 
 fault-code : (c d : ℕ) → Fault c ≡ Fault d → c ≡ d
@@ -40,7 +40,8 @@ module _ (p : Params) (s : ℕ) (image : List ℕ) (u : Track) (k : ℕ) where
   in-slot v none e = absurd (slot-fault u k _ (sym e))
   in-slot v (some j) e = (slot-track v u j k e, ap some (slot-number v u j k e))
 
-  from-slot : (w : Where) → sectorFrom p s image w ≡ Slot u k → (w ≡ On u) × (slotUsed p s (trackBytes p u image) ≡ some k)
+  -- the search goes on in the slot's track, and the slot is the one used there
+  pub from-slot : (w : Where) → sectorFrom p s image w ≡ Slot u k → (w ≡ On u) × (slotUsed p s (trackBytes p u image) ≡ some k)
   unfolding sectorFrom
   from-slot (Off code) e = absurd (slot-fault u k code (sym e))
   from-slot (On v) e =

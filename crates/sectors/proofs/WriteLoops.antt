@@ -82,22 +82,22 @@ module _ (p : Params) (k : ℕ) where
       (λ u j nc. stopped m (next a) (drop (p .size) given) _ refl nc) n)
 
 -- ---- how many sectors
-record Counted (n : ℕ) (x : Transfer) : Type 0 where
+pub record Counted (n : ℕ) (x : Transfer) : Type 0 where
   pub most : x .done ≤ n
   pub all : x .code ≡ 0 → x .done ≡ n
 
-counted : (p : Params) (n m : ℕ) (a : Lba) (given : List ℕ) (x : Transfer) → x .done + m ≡ n → Counted n (writing p m a given x)
+pub writing-counted : (p : Params) (n m : ℕ) (a : Lba) (given : List ℕ) (x : Transfer) → x .done + m ≡ n → Counted n (writing p m a given x)
 unfolding writing writeSlot ended
-counted p n zero a given x e = record { most = omega arith; all = λ z. omega arith }
-counted p n (suc m) a given x e =
+writing-counted p n zero a given x e = record { most = omega arith; all = λ z. omega arith }
+writing-counted p n (suc m) a given x e =
     onward-has (Counted n) x _ (found p a (x .image))
     (λ code ef. record { most = omega arith; all = λ z. absurd (omega (arith, found-fault p a (x .image) code ef .0)) })
-    (λ u k ef. counted p n m (next a) (drop (p .size) given) _ (omega arith))
+    (λ u k ef. writing-counted p n m (next a) (drop (p .size) given) _ (omega arith))
 
 module _ (p : Params) (n : ℕ) (a : Lba) (given image after : List ℕ) (r : Done) (w : HasWritten p n a given r image after) where
   has-counted : Counted n (writing p n a given (begun image))
   unfolding begun
-  has-counted = counted p n n a given (begun image) (omega arith)
+  has-counted = writing-counted p n n a given (begun image) (omega arith)
 
   -- no more than were asked for, and as many if none failed
   pub written-most : r .sectors ≤ n

@@ -1,18 +1,17 @@
 -- Sectors of one track written one after the other, as defined, leave what a run of them leaves.
 use mathlib.Core.Path.{_≡_, refl, sym, ap, _∙_}
 use mathlib.Core.Option.{Option, none, some}
-use mathlib.Core.List.{List, _++_}
+use mathlib.Core.List.{List}
 use Prim.Native.Nat.{ℕ, zero, suc, _+_, _-_, _*_, _≤_, _<_}
 use native.Mathlib.Omega.{arith}
 use native.Mathlib.Nat.{suc-mul}
-use lib.ListN.{length, take, drop, length-take, length-drop, take-append-drop}
-use lib.Seq.{take-at, drop-at, drop-drop, drop-append-add, length-take-le}
+use lib.ListN.{length, take, drop, length-take, length-drop}
 use lib.Dec.{ltb, leb·suc-suc}
 use borrow.Author.Tests.{lt-ltb}
 use borrow.Rule.Slice.PartMut.{putMid}
 use Rattle.base.specs.Pick.{pick}
-use Rattle.base.specs.Part.{part, splice}
-use Rattle.base.proofs.Parts.{length-part, splice-lent}
+use Rattle.base.proofs.Parts.{splice-lent}
+use Rattle.base.proofs.Splices.{splice-part, splice-again}
 use Rattle.geometry.specs.declared.params.Params.{Params}
 use Rattle.geometry.specs.declared.params.Lba.{Lba}
 use Rattle.geometry.specs.declared.params.Track.{Track}
@@ -31,25 +30,6 @@ use Rattle.sectors.specs.declared.transfer.Done.{Done}
 use Rattle.sectors.specs.Promises.{HasWritten}
 use Rattle.sectors.proofs.Founds.{track-below}
 use Rattle.sectors.proofs.Along.{found-on, found-off, address-of, track-at, sector-at}
-
--- ---- a stretch put in where it lies, and one put in over another
-splice-part : (at size : ℕ) (xs : List ℕ) → at + size ≤ length xs → splice at (part at size xs) xs ≡ xs
-unfolding splice part
-splice-part at size xs h =
-    ap (λ (n : ℕ). take at xs ++ (take size (drop at xs) ++ drop (at + n) xs)) (length-part at size xs h)
-    ∙ ap (λ (l : List ℕ). take at xs ++ (take size (drop at xs) ++ l)) (sym (drop-drop size at xs))
-    ∙ ap (λ (l : List ℕ). take at xs ++ l) (take-append-drop size (drop at xs))
-    ∙ take-append-drop at xs
-
-splice-again : (at : ℕ) (ys zs xs : List ℕ) → length ys ≡ length zs → at ≤ length xs → splice at ys (splice at zs xs) ≡ splice at ys xs
-unfolding splice
-splice-again at ys zs xs e h =
-    let rest = drop (at + length zs) xs in
-    let l : length (take at xs) ≡ at = length-take-le at xs h in
-    let back : drop (at + length ys) (take at xs ++ (zs ++ rest)) ≡ drop (at + length ys) xs =
-    ap (λ (n : ℕ). drop (n + length ys) (take at xs ++ (zs ++ rest))) (sym l)
-    ∙ drop-append-add (take at xs) (zs ++ rest) (length ys) ∙ drop-at zs rest (length ys) (sym e) ∙ ap (λ (n : ℕ). drop (at + n) xs) (sym e) in
-    rw (take-at (take at xs) (zs ++ rest) at l, back) refl
 
 -- ---- what the runs leave
 -- sectors that are found in the same slots give as many

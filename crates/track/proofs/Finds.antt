@@ -62,10 +62,10 @@ pub where-from : (p : Params) (t : Track) (image : List ℕ) (id : Id) (own take
 unfolding whereOf
 where-from p t image id own taken ei eo et = rw (eo, et, ei)
 
-off-on : (code : ℕ) (u : Track) → Off code ≡ On u → ⊥
+pub off-on : (code : ℕ) (u : Track) → Off code ≡ On u → ⊥
 off-on code u e = let z : _≡_ {A = ℕ} 0 1 = cc in omega arith
 
-on-same : (t u : Track) → On t ≡ On u → t ≡ u
+pub on-same : (t u : Track) → On t ≡ On u → t ≡ u
 on-same t u e = cc
 
 -- the track, where there is one, is below a count

@@ -74,16 +74,16 @@ module _ (b : Block) (given : List ℕ) (area : ℕ) (entry : Drive) (buffer ima
     setting : settingOf medium (entry .config) (length image) ≡ Valid p
     setting = setting-known medium entry (length image) p valid
 
-    w : Within p
+    pub w : Within p
     w = setting-within medium _ _ p setting .0
 
-    fits : imageLength p ≤ length image
+    pub fits : imageLength p ≤ length image
     fits = setting-within medium _ _ p setting .1
 
-    ten : length (entry .config) ≡ 10
+    pub ten : length (entry .config) ≡ 10
     ten = setting-ten medium _ _ p setting
 
-    clear : (command : Command) → rowFor (b .opcode) .command ≡ command → Cleared (rowFor (opcodeFor command)) b p (entry .pending) (length given)
+    pub clear : (command : Command) → rowFor (b .opcode) .command ≡ command → Cleared (rowFor (opcodeFor command)) b p (entry .pending) (length given)
     unfolding viewOf
     clear command is =
         subst (λ (r : TableRow). Cleared r b p (entry .pending) (length given))

@@ -86,7 +86,7 @@ pub record LeavesBy (b : Block) (given : List ℕ) (entry : Drive) (buffer image
   pub writes : Writes image command (e .image)
 
 -- ---- Verdicts: the order of checks refuses with 2 or 3 only, own checks never
-data Verdicts : (refusals : Bool) → Verdict → Type 0 where
+pub data Verdicts : (refusals : Bool) → Verdict → Type 0 where
   second : Verdicts true (Refused 2)
   third : Verdicts true (Refused 3)
   fault : {refusals : Bool} (code : ℕ) (at : Lba) → Verdicts refusals (Faulty code at)
@@ -111,7 +111,7 @@ judged-by (faults rest) = picked _ (fault _ _) (judged-by rest)
 judged-by (seconds rest) = picked _ second (judged-by rest)
 judged-by (thirds rest) = picked _ third (judged-by rest)
 
-judge-by : (b : Block) (v : View) (given area : ℕ) → Verdicts true (judge b v given area)
+pub judge-by : (b : Block) (v : View) (given area : ℕ) → Verdicts true (judge b v given area)
 unfolding judge inOrder
 judge-by b v given area = judged-by (faults (faults (faults (faults (faults (faults (faults (seconds (thirds done)))))))))
 

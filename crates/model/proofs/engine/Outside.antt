@@ -1,10 +1,10 @@
 -- Bytes outside a drive's tracks: the label before them, and those past the image length that the parameters give. What is put
 -- into an image between them leaves them.
-use Prim.Native.Nat.{ℕ, zero, suc, _+_, _-_, _*_, _≤_, _<_}
-use mathlib.Core.Path.{_≡_, refl, ap, _∙_}
+use Prim.Native.Nat.{ℕ, zero, suc, _+_, _-_, _≤_, _<_}
+use mathlib.Core.Path.{_≡_, refl, _∙_}
 use mathlib.Core.List.{List, _++_}
 use native.Mathlib.Omega.{arith}
-use native.Mathlib.Nat.{mul-le-mul-left, min-le-left}
+use native.Mathlib.Nat.{min-le-left}
 use lib.ListN.{length, take, length-take, length-replicate}
 use Rattle.base.specs.Part.{part, splice}
 use Rattle.base.proofs.Decide.{pick-both}
@@ -22,10 +22,9 @@ use Rattle.interleave.specs.Layout.{layoutOf}
 use Rattle.interleave.proofs.Layouts.{layout-length}
 use Rattle.track.specs.declared.state.State.{State}
 use Rattle.track.specs.declared.state.State.the-variants.{Sound, Moved, Taken}
-use Rattle.track.specs.Id.{idFor}
 use Rattle.track.specs.Image.{withTrack}
 use Rattle.formatter.specs.Format.{formatted, soundFrom}
-use Rattle.formatter.proofs.Formats.{length-slots}
+use Rattle.contents.proofs.Formats.{formatted-most}
 use Rattle.model.specs.declared.block.Block.{Block}
 use Rattle.model.specs.Commands.{plainByte, plainFill, fillOf, madeAt, driveFormatted, assigned}
 
@@ -74,16 +73,9 @@ module _ (low : ℕ) (p : Params) (image : List ℕ) (fits : imageLength p ≤ l
 
 -- a formatted track is no longer than a track, whatever the fill is cut to
 module _ (low : ℕ) (front : low ≤ 16) (p : Params) (map fill : List ℕ) (lm : length map ≡ p .sectors) (lf : length fill ≤ p .size) where
-  formatted-most : (t : Track) (state : State) → length (formatted p t state map fill) ≤ trackSize p
-  unfolding formatted
-  formatted-most t state =
-      let e : length map * (8 + length fill) ≡ p .sectors * (8 + length fill) = ap (λ (n : ℕ). n * (8 + length fill)) lm in
-      let le : 8 + length fill ≤ 8 + p .size = omega arith in
-      omega (arith, e, length-slots (idFor p t state 0) map fill, mul-le-mul-left (p .sectors) le)
-
   formatted-outside : (image : List ℕ) → imageLength p ≤ length image → (t : Track) (state : State) → t .0 < trackCount p
       → Outside low (Valid p) image (withTrack p t (formatted p t state map fill) image)
-  formatted-outside image fits t state h = track-outside low p image fits front t (formatted p t state map fill) h (formatted-most t state)
+  formatted-outside image fits t state h = track-outside low p image fits front t (formatted p t state map fill) h (formatted-most p map fill lm lf t state)
 
   sound-outside : (n : ℕ) (t : Track) (image : List ℕ) → imageLength p ≤ length image → t .0 + n ≤ trackCount p
       → Outside low (Valid p) image (soundFrom p map fill n t image)

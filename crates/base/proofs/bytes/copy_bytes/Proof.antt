@@ -1,61 +1,59 @@
 use borrow.Author.Needs.{needs}
-use Rattle.base.proofs.Copies.{room-long, room-front}
+use native.Mathlib.Omega.{arith}
+use Prim.Native.Nat.{_≤_, _-_}
+use mathlib.Core.Path.{_≡_, refl}
+use mathlib.Core.List.{_++_}
+use lib.ListN.{length, take, drop, length-set}
+use Rattle.base.proofs.Copies.{copy-more, copy-all}
 use Rattle.base.proofs.bytes.copy_bytes.Statement.{statement}
 use Rattle.base.proofs.bytes.copy_bytes.Tie as tie
 
-copy-each-requires : tie.Need-copy-each-requires
-copy-each-requires c κs = search needs
+abbrev Inv-loop : tie.InvT-loop
+Inv-loop dst₀ src i₀ dst i = (i ≤ length src) × (dst ≡ take i src ++ drop i dst₀) × (length dst ≡ length dst₀)
 
-same-length : tie.Need-same-length
+abbrev μ-loop : tie.MeasureT-loop
+μ-loop dst₀ src i₀ dst i = length src - i
+
+loop-holds : tie.Need-loop-holds Inv-loop μ-loop
+loop-holds c = (omega arith, refl, refl)
+
+shared-slice-read-dst : tie.Need-shared-slice-read-dst Inv-loop μ-loop
+shared-slice-read-dst c = search needs
+
+slice-write-dst : tie.Need-slice-write-dst Inv-loop μ-loop
+slice-write-dst c = search needs
+
+add-i : tie.Need-add-i Inv-loop μ-loop
+add-i c = search needs
+
+loop-less : tie.Need-loop-less Inv-loop μ-loop
+loop-less c = search needs
+
+loop-again : tie.Need-loop-again Inv-loop μ-loop
+loop-again c =
+    let l = c .before .before .loop in (
+      omega arith,
+      copy-more _ _ _ (l .i) (omega arith) (omega arith) (l .inv .1),
+      simp length-set (l .inv .2),
+    )
+
+same-length : tie.Need-same-length Inv-loop μ-loop
 same-length c = search needs
 
-returns : tie.Need-returns
-returns c = search needs
-
-sub-copy-each : tie.Need-sub-copy-each
-sub-copy-each c = search needs
-
-part-room-start : tie.Need-part-room-start
-part-room-start c = search needs
-
-part-room-end : tie.Need-part-room-end
-part-room-end c = search needs
-
-copy-each-requires-2 : tie.Need-copy-each-requires-2
-copy-each-requires-2 c κs = search needs
-
-sub-copy-each-2 : tie.Need-sub-copy-each-2
-sub-copy-each-2 c = search needs
-
-part-copy-each-start : tie.Need-part-copy-each-start
-part-copy-each-start c = search needs
-
-part-copy-each-end : tie.Need-part-copy-each-end
-part-copy-each-end c = room-long _ _ _ (c .before .before .before .copy-each2 .ensures)
-
-copy-each-requires-3 : tie.Need-copy-each-requires-3
-copy-each-requires-3 c κs = search needs
-
-same-length-2 : tie.Need-same-length-2
-same-length-2 c = search needs
-
-returns-2 : tie.Need-returns-2
-returns-2 c = room-front _ _ _ _ (c .before .before .before .before .before .before .before .copy-each2 .ensures) (c .before .before .copy-each3 .ensures)
+returns : tie.Need-returns Inv-loop μ-loop
+returns c = copy-all _ _ _ (c .before .loop .i) (omega arith) (omega arith) (c .before .loop .inv .1)
 
 pub copy-bytes-spec : {M : Type 1} → statement M
 copy-bytes-spec =
     tie.close
     (tie.spec
-    copy-each-requires
+    Inv-loop
+    μ-loop
+    loop-holds
+    shared-slice-read-dst
+    slice-write-dst
+    add-i
+    loop-less
+    loop-again
     same-length
-    returns
-    sub-copy-each
-    part-room-start
-    part-room-end
-    copy-each-requires-2
-    sub-copy-each-2
-    part-copy-each-start
-    part-copy-each-end
-    copy-each-requires-3
-    same-length-2
-    returns-2)
+    returns)

@@ -1,0 +1,14 @@
+pub mod Terms
+pub mod Owners
+pub mod Places
+pub mod Puts
+pub mod PutAlls
+pub mod Readings
+pub mod Writings
+pub mod Alikes
+pub mod Swaps
+pub mod Elsewhere
+pub mod Takens
+pub mod Formats
+pub mod Fills
+pub mod Laws

@@ -1,0 +1,4 @@
+-- No other record changes, and what is written is read.
+pub mod Commands
+pub mod Calls
+pub mod Places

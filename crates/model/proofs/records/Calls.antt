@@ -1,0 +1,261 @@
+-- The same of any call: the block may be wrong, the drive another, the command refused or failed.
+use Prim.Native.Nat.{ℕ, _*_, _<_}
+use mathlib.Core.Path.{_≡_, refl, sym, ap, _∙_}
+use mathlib.Core.Bool.{Bool, true, false, _&&_, true≢false}
+use mathlib.Core.List.{List, []}
+use native.Mathlib.Omega.{arith}
+use lib.ListN.{length}
+use lib.Dec.{eqb}
+use borrow.Author.Tests.{eq-eqb, eqb-true, eqb-false}
+use Rattle.base.specs.Part.{part}
+use Rattle.base.proofs.Decide.{pick-true, pick-false}
+use Rattle.geometry.specs.declared.params.Lba.{Lba}
+use Rattle.geometry.specs.declared.params.Params.{Params}
+use Rattle.geometry.specs.declared.config.Setting.the-variants.{Valid, Invalid}
+use Rattle.geometry.specs.Params.{trackCount, trackOf, OnDrive, further}
+use Rattle.geometry.specs.Medium.{mediumOf}
+use Rattle.track.specs.Image.{Fits}
+use Rattle.sectors.specs.Transfer.{begun}
+use Rattle.contents.specs.Content.{Bytes, contentOf}
+use Rattle.contents.proofs.Terms.{Given}
+use Rattle.contents.proofs.Laws
+use Rattle.model.specs.declared.block.Block.{Block}
+use Rattle.model.specs.declared.table.Command.{Command}
+use Rattle.model.specs.declared.table.Command.the-variants.{Free, OnDisk, Unknown}
+use Rattle.model.specs.declared.table.FreeCommand.{FreeCommand}
+use Rattle.model.specs.declared.table.FreeCommand.the-variants.{RequestSense, WriteBuffer, ReadBuffer, Initialize}
+use Rattle.model.specs.declared.table.DiskCommand.{DiskCommand}
+use Rattle.model.specs.declared.table.DiskCommand.the-variants.{ArmWork, TrackWork, SectorWork}
+use Rattle.model.specs.declared.table.TrackCommand.{TrackCommand}
+use Rattle.model.specs.declared.table.TrackCommand.the-variants.{FormatDrive, CheckTrack, FormatTrack, FormatBadTrack, AssignAlternate}
+use Rattle.model.specs.declared.table.SectorCommand.{SectorCommand}
+use Rattle.model.specs.declared.table.SectorCommand.the-variants.{Read, Write}
+use Rattle.model.specs.declared.record.Drive.{Drive}
+use Rattle.model.specs.declared.record.Ending.{Ending}
+use Rattle.model.specs.declared.record.Controller.{Controller}
+use Rattle.model.specs.declared.verdict.Verdict.{Verdict}
+use Rattle.model.specs.declared.verdict.Verdict.the-variants.{Passed}
+use Rattle.model.specs.Block.{blockOf, countOf}
+use Rattle.model.specs.Table.{checkNumber, isAmong, rowFor}
+use Rattle.model.specs.Checks.{bytesOf, sizeIn, judge}
+use Rattle.model.specs.Record.{driveAt, settingIn, refused, failed, unless, Effect, effect}
+use Rattle.model.specs.Commands.{transferred, read, doFree, doTrack, doSectors, asEffect, doDisk, carryOut}
+use Rattle.model.specs.Engine.{viewOf, obey, Result, imageOf, left, onDrive, execute}
+use Rattle.model.specs.Records.{isGood, onTracks, namedBy, named, NoOtherRecord, NoneWithoutParameters, PastStays, WrittenReads, SlotsApart}
+use Rattle.model.proofs.engine.Checked.{opcodeFor, track-cleared, count-cleared}
+use Rattle.model.proofs.engine.Leaving.{Verdicts, second, third, fault, pass, judge-by, read-image}
+use Rattle.model.proofs.engine.Beyond.{clear, w, fits, ten, outside-kept}
+use Rattle.model.proofs.engine.Outside.{Outside, outside-self}
+use Rattle.model.proofs.engine.Assembled.{other-image, own-image}
+use Rattle.model.proofs.records.Commands.{format-track-other, format-bad-track-other, format-drive-other, assign-alternate-other}
+use Rattle.model.proofs.records.Commands.{not-good, write-other, write-given, write-whole}
+
+-- ---- A command that has not passed counts no sector, leaves the image, and does not end with good status
+record NotDone (drive : ℕ) (x : Ending) : Type 0 where
+  none : x .answer .sectors ≡ 0
+  bad : isGood drive (x .answer) ≡ false
+
+by-verdict : (P : Effect → Type 0) (drive : ℕ) (entry : Drive) (buffer image : List ℕ) (after : Effect) {v : Verdict} → Verdicts true v
+    → ((x : Ending) → NotDone drive x → P (effect x buffer [] image)) → (v ≡ Passed → P after)
+    → P (unless v drive entry (λ e. effect e buffer [] image) after)
+unfolding unless refused failed isGood
+by-verdict P drive entry buffer image after second old new = old _ (record { none = refl; bad = refl })
+by-verdict P drive entry buffer image after third old new = old _ (record { none = refl; bad = refl })
+by-verdict P drive entry buffer image after (fault code at) old new = old _ (record { none = refl; bad = not-good drive 0 0 })
+by-verdict P drive entry buffer image after pass old new = new refl
+
+-- ---- What a Write counts as done reads as given; with good status all are done
+abbrev Reads : Block → (given : List ℕ) → Params → Effect → Type 0
+Reads b given p e =
+    ((i : ℕ) → i < e .ending .answer .sectors → contentOf p (further (b .address) i) (e .image) ≡ Bytes (part (i * p .size) (p .size) given))
+    × (isGood (b .drive) (e .ending .answer) ≡ true → e .ending .answer .sectors ≡ countOf b)
+
+-- ---- A command whose checks have passed, with parameters p
+module _ (b : Block) (given : List ℕ) (area : ℕ) (entry : Drive) (buffer image : List ℕ)
+    (passed : judge b (viewOf (mediumOf (b .drive)) entry (length image)) (length given) area ≡ Passed)
+    (p : Params) (valid : settingIn (mediumOf (b .drive)) entry (length image) ≡ Valid p) where
+  good-image : Fits p image
+  good-image = record { within = w b given area entry buffer image passed p valid; long = fits b given area entry buffer image passed p valid }
+
+  on-track : (command : TrackCommand) → rowFor (b .opcode) .command ≡ OnDisk (TrackWork command) → trackOf p (b .address) .0 < trackCount p
+  unfolding rowFor opcodeFor isAmong checkNumber
+  on-track FormatDrive is = track-cleared (good-image .within) (clear b given area entry buffer image passed p valid _ is) refl refl
+  on-track CheckTrack is = track-cleared (good-image .within) (clear b given area entry buffer image passed p valid _ is) refl refl
+  on-track FormatTrack is = track-cleared (good-image .within) (clear b given area entry buffer image passed p valid _ is) refl refl
+  on-track FormatBadTrack is = track-cleared (good-image .within) (clear b given area entry buffer image passed p valid _ is) refl refl
+  on-track AssignAlternate is = track-cleared (good-image .within) (clear b given area entry buffer image passed p valid _ is) refl refl
+
+  to-write : rowFor (b .opcode) .command ≡ OnDisk (SectorWork Write) → Given p (countOf b) (b .address) given
+  unfolding rowFor opcodeFor isAmong checkNumber bytesOf sizeIn
+  to-write is =
+      let ours = clear b given area entry buffer image passed p valid (OnDisk (SectorWork Write)) is in
+      record { on-drive = count-cleared (good-image .within) ours refl refl; enough = ours .enough }
+
+  module _ (a : Lba) (ha : OnDrive p a) where
+    -- not named, it reads as before
+    abbrev Spared : Command → Effect → Type 0
+    Spared command e = namedBy p b given (e .ending .answer) a command ≡ false → contentOf p a (e .image) ≡ contentOf p a image
+
+    track-spares : (command : TrackCommand) → rowFor (b .opcode) .command ≡ OnDisk (TrackWork command)
+        → Spared (OnDisk (TrackWork command)) (asEffect buffer (doTrack b p buffer given entry image command))
+    unfolding asEffect doTrack namedBy onTracks
+    track-spares FormatDrive is off =
+        format-drive-other p image good-image b buffer entry (on-track FormatDrive is) a ha (ten b given area entry buffer image passed p valid) off
+    track-spares CheckTrack is off = refl
+    track-spares FormatTrack is off = format-track-other p image good-image b buffer entry (on-track FormatTrack is) a ha off
+    track-spares FormatBadTrack is off = format-bad-track-other p image good-image b buffer entry (on-track FormatBadTrack is) a ha off
+    track-spares AssignAlternate is off =
+        assign-alternate-other p image good-image b buffer entry (on-track AssignAlternate is) a ha given off
+
+    sectors-spare : (command : SectorCommand) → rowFor (b .opcode) .command ≡ OnDisk (SectorWork command)
+        → Spared (OnDisk (SectorWork command)) (doSectors b p given entry buffer image command)
+    unfolding doSectors read transferred namedBy begun
+    sectors-spare Read is off = ap (contentOf p a) (read-image (countOf b) (b .address) p (begun image))
+    sectors-spare Write is off = write-other p image good-image b given (to-write is) entry buffer a ha off
+
+    free-spares : (command : FreeCommand) → Spared (Free command) (doFree b given entry buffer image command)
+    unfolding doFree
+    free-spares RequestSense off = refl
+    free-spares WriteBuffer off = refl
+    free-spares ReadBuffer off = refl
+    free-spares Initialize off = refl
+
+    disk-spares : (command : DiskCommand) → rowFor (b .opcode) .command ≡ OnDisk command
+        → Spared (OnDisk command) (doDisk b p given entry buffer image command)
+    unfolding doDisk
+    disk-spares (ArmWork command) is off = refl
+    disk-spares (TrackWork command) is off = track-spares command is off
+    disk-spares (SectorWork command) is off = sectors-spare command is off
+
+    carried-spares : (command : Command) → rowFor (b .opcode) .command ≡ command → Spared command (carryOut b (Valid p) given entry buffer image command)
+    unfolding carryOut
+    carried-spares (Free command) is off = free-spares command off
+    carried-spares (OnDisk command) is off = disk-spares command is off
+    carried-spares Unknown is off = refl
+
+  -- ---- what a Write counts as done
+  written-given : rowFor (b .opcode) .command ≡ OnDisk (SectorWork Write)
+      → Reads b given p (carryOut b (Valid p) given entry buffer image (OnDisk (SectorWork Write)))
+  unfolding carryOut doDisk doSectors
+  written-given is =
+      (write-given p image good-image b given (to-write is) entry buffer, write-whole p image good-image b given (to-write is) entry buffer)
+
+-- ---- Any command of six bytes on its drive
+module _ (b : Block) (given : List ℕ) (area : ℕ) (entry : Drive) (buffer image : List ℕ)
+    (p : Params) (valid : settingIn (mediumOf (b .drive)) entry (length image) ≡ Valid p) where
+  abbrev Done : Effect → Type 0
+  Done e = (a : Lba) → OnDrive p a → namedBy p b given (e .ending .answer) a (rowFor (b .opcode) .command) ≡ false
+      → contentOf p a (e .image) ≡ contentOf p a image
+
+  pub obey-spares : Done (obey b given area entry buffer image)
+  unfolding obey viewOf
+  obey-spares =
+      by-verdict Done (b .drive) entry buffer image _ (judge-by b _ (length given) area) (λ x n a ha off. refl)
+      (λ passed.
+      rw valid
+      (λ a ha off. carried-spares b given area entry buffer image passed p valid a ha (rowFor (b .opcode) .command) refl off))
+
+  pub obey-writes : rowFor (b .opcode) .command ≡ OnDisk (SectorWork Write) → Reads b given p (obey b given area entry buffer image)
+  unfolding obey viewOf
+  obey-writes is =
+      by-verdict (Reads b given p) (b .drive) entry buffer image _ (judge-by b _ (length given) area)
+      (λ x n. (λ i l. absurd (omega (arith, n .none)), λ ok. absurd (true≢false (sym ok ∙ n .bad))))
+      (λ passed. rw (valid, is) (written-given b given area entry buffer image passed p valid is))
+
+-- ---- Any call
+module _ (c : Controller) (block given area : List ℕ) (images : List (List ℕ)) where
+  abbrev b : Block
+  b = blockOf block
+
+  abbrev image : List ℕ
+  image = imageOf (b .drive) images
+
+  abbrev done : Effect
+  done = obey b given (length area) (driveAt c (b .drive)) (c .buffer) image
+
+  abbrev result : Result
+  result = left (b .drive) done c area images
+
+  pub six-bytes : eqb (length block) 6 ≡ true → execute c block given area images ≡ result
+  unfolding execute onDrive
+  six-bytes e = pick-true _ _ _ e
+
+  pub not-six : eqb (length block) 6 ≡ false → execute c block given area images .images ≡ images
+  unfolding execute
+  not-six e = ap (λ (r : Result). r .images) (pick-false (eqb (length block) 6) _ _ e)
+
+  pub not-six-record : eqb (length block) 6 ≡ false → execute c block given area images .outcome .controller ≡ c
+  unfolding execute
+  not-six-record e = ap (λ (r : Result). r .outcome .controller) (pick-false (eqb (length block) 6) _ _ e)
+
+  pub its-image : imageOf (b .drive) (result .images) ≡ done .image
+  its-image =
+      own-image (b .drive) done c area images
+      (outside-kept b given (length area) (driveAt c (b .drive)) (c .buffer) image 0 (omega arith) (λ is. refl) .len)
+
+  pub its-answer : result .outcome .answer ≡ done .ending .answer
+  unfolding left
+  its-answer = refl
+
+  module _ (d : ℕ) (p : Params) (valid : settingIn (mediumOf d) (driveAt c d) (length (imageOf d images)) ≡ Valid p) (a : Lba) (ha : OnDrive p a) where
+    abbrev Same : Result → Type 0
+    Same r = contentOf p a (imageOf d (r .images)) ≡ contentOf p a (imageOf d images)
+
+    on-its-drive : (own : Bool) → eqb (b .drive) d ≡ own
+        → (own && namedBy p b given (result .outcome .answer) a (rowFor (b .opcode) .command)) ≡ false → Same result
+    on-its-drive false e off = ap (contentOf p a) (other-image (b .drive) done c area images d (λ z. eqb-false _ _ e (sym z)))
+    on-its-drive true e off =
+        let z : b .drive ≡ d = eqb-true _ _ e in
+        rw (← z)
+        (ap (contentOf p a) its-image
+        ∙ obey-spares b given (length area) (driveAt c (b .drive)) (c .buffer) image p (rw (← z) at valid) a ha (rw its-answer at off))
+
+    by-length : (six : Bool) → eqb (length block) 6 ≡ six
+        → (six && (eqb (b .drive) d && namedBy p b given (execute c block given area images .outcome .answer) a (rowFor (b .opcode) .command))) ≡ false
+        → Same (execute c block given area images)
+    by-length false e off = ap (λ (l : List (List ℕ)). contentOf p a (imageOf d l)) (not-six e)
+    by-length true e off = rw (six-bytes e) (on-its-drive (eqb (b .drive) d) refl (rw (six-bytes e) at off))
+
+  -- bytes outside a drive's tracks
+  module _ (d : ℕ) where
+    abbrev Beyond : Result → Type 0
+    Beyond r = Outside 0 (settingIn (mediumOf d) (driveAt c d) (length (imageOf d images))) (imageOf d images) (imageOf d (r .images))
+
+    beyond-drive : (own : Bool) → eqb (b .drive) d ≡ own → Beyond result
+    beyond-drive false e = rw (other-image (b .drive) done c area images d (λ z. eqb-false _ _ e (sym z))) (outside-self 0 _ (imageOf d images))
+    beyond-drive true e =
+        let z : b .drive ≡ d = eqb-true _ _ e in
+        rw (← z, its-image) (outside-kept b given (length area) (driveAt c (b .drive)) (c .buffer) image 0 (omega arith) (λ is. refl))
+
+    beyond : (six : Bool) → eqb (length block) 6 ≡ six → Beyond (execute c block given area images)
+    beyond false e = rw (not-six e) (outside-self 0 _ (imageOf d images))
+    beyond true e = rw (six-bytes e) (beyond-drive (eqb (b .drive) d) refl)
+
+-- What a command does not name reads as before.
+pub no-other-record : NoOtherRecord
+unfolding NoOtherRecord named
+no-other-record c block given area images d p valid a ha off = by-length c block given area images d p valid a ha (eqb (length block) 6) refl off
+
+-- What a Write counts as done reads as the data given.
+pub written-reads : WrittenReads
+unfolding WrittenReads
+written-reads c block given area images p six is valid =
+    let b = blockOf block in
+    let r = obey-writes b given (length area) (driveAt c (b .drive)) (c .buffer) (imageOf (b .drive) images) p valid is in
+    rw (six-bytes c block given area images (eq-eqb _ _ six), its-answer c block given area images, its-image c block given area images) r
+
+-- Of a drive without parameters no byte changes.
+pub none-without-parameters : NoneWithoutParameters
+unfolding NoneWithoutParameters
+none-without-parameters c block given area images d none = beyond c block given area images d (eqb (length block) 6) refl .all none
+
+-- The bytes past a drive's last track stay, and the length.
+pub past-stays : PastStays
+unfolding PastStays
+past-stays c block given area images d =
+    let r = beyond c block given area images d (eqb (length block) 6) refl in (r .len, r .past)
+
+-- Two addresses never share a slot.
+pub slots-apart : SlotsApart
+unfolding SlotsApart
+slots-apart = Laws.slots-apart

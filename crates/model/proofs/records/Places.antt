@@ -1,0 +1,208 @@
+-- What says where records are: the label, and the parameters in force.
+use Prim.Native.Nat.{ℕ, _≤_, _<_}
+use mathlib.Core.Path.{_≡_, refl, sym, ap, _∙_}
+use mathlib.Core.Bool.{Bool, true, false, true≢false}
+use mathlib.Core.List.{List, []}
+use native.Mathlib.Omega.{arith}
+use native.Mathlib.Decide.{decLt}
+use lib.Seq.{getD-set-same}
+use lib.ListN.{length, getD, set, List·getD-eq-default, length-set}
+use lib.Dec.{eqb}
+use borrow.Author.Tests.{eqb-true, eqb-false}
+use Rattle.base.specs.Part.{part}
+use Rattle.geometry.specs.declared.params.Params.{Params}
+use Rattle.geometry.specs.declared.config.Setting.{Setting}
+use Rattle.geometry.specs.declared.config.Setting.the-variants.{Valid, Invalid}
+use Rattle.geometry.specs.Medium.{mediumOf}
+use Rattle.model.specs.declared.block.Block.{Block}
+use Rattle.model.specs.declared.table.Command.{Command}
+use Rattle.model.specs.declared.table.Command.the-variants.{Free, OnDisk, Unknown}
+use Rattle.model.specs.declared.table.FreeCommand.{FreeCommand}
+use Rattle.model.specs.declared.table.FreeCommand.the-variants.{RequestSense, WriteBuffer, ReadBuffer, Initialize}
+use Rattle.model.specs.declared.table.DiskCommand.the-variants.{ArmWork, TrackWork, SectorWork}
+use Rattle.model.specs.declared.table.TrackCommand.the-variants.{FormatDrive, CheckTrack, FormatTrack, FormatBadTrack, AssignAlternate}
+use Rattle.model.specs.declared.record.Drive.{Drive}
+use Rattle.model.specs.declared.record.Controller.{Controller}
+use Rattle.model.specs.declared.verdict.Verdict.{Verdict}
+use Rattle.model.specs.declared.verdict.Verdict.the-variants.{Refused, Faulty, Passed}
+use Rattle.model.specs.Block.{blockOf}
+use Rattle.model.specs.Table.{rowFor}
+use Rattle.model.specs.Record.{driveAt, blankDrive, sensed, failed, good, refused, settingIn, unless, Effect, effect, Made, made}
+use Rattle.model.specs.Commands.{pendingEnded, formatDrive, initialized, initializedBy, initialize, doFree, doTrack, asEffect, doDisk, carryOut}
+use Rattle.model.specs.Engine.{viewOf, obey, Result, imageOf, left, onDrive, execute}
+use Rattle.model.specs.Records.{isGood, Is, LabelStays, ParametersStay}
+use Rattle.model.proofs.engine.Leaving.{Makes, kept, sense, initial, formatted, LeavesBy, Obeyed, answered, denied, obeyed}
+use Rattle.model.proofs.engine.Beyond.{unless-left, outside-kept}
+use Rattle.model.proofs.engine.Assembled.{other-entry, other-image}
+use Rattle.model.proofs.records.Commands.{is-good}
+use Rattle.model.proofs.records.Calls.{six-bytes, not-six, not-six-record, its-image, its-answer}
+
+-- ---- Which command it is
+is-format : (command : Command) → Dec (command ≡ OnDisk (TrackWork FormatDrive))
+is-format (OnDisk (TrackWork FormatDrive)) = yes refl
+is-format (OnDisk (TrackWork CheckTrack)) = no (λ e. let z : _≡_ {A = ℕ} 0 1 = cc in omega arith)
+is-format (OnDisk (TrackWork FormatTrack)) = no (λ e. let z : _≡_ {A = ℕ} 0 1 = cc in omega arith)
+is-format (OnDisk (TrackWork FormatBadTrack)) = no (λ e. let z : _≡_ {A = ℕ} 0 1 = cc in omega arith)
+is-format (OnDisk (TrackWork AssignAlternate)) = no (λ e. let z : _≡_ {A = ℕ} 0 1 = cc in omega arith)
+is-format (OnDisk (ArmWork command)) = no (λ e. let z : _≡_ {A = ℕ} 0 1 = cc in omega arith)
+is-format (OnDisk (SectorWork command)) = no (λ e. let z : _≡_ {A = ℕ} 0 1 = cc in omega arith)
+is-format (Free command) = no (λ e. let z : _≡_ {A = ℕ} 0 1 = cc in omega arith)
+is-format Unknown = no (λ e. let z : _≡_ {A = ℕ} 0 1 = cc in omega arith)
+
+is-initialize : (command : Command) → Dec (command ≡ Free Initialize)
+is-initialize (Free Initialize) = yes refl
+is-initialize (Free RequestSense) = no (λ e. let z : _≡_ {A = ℕ} 0 1 = cc in omega arith)
+is-initialize (Free WriteBuffer) = no (λ e. let z : _≡_ {A = ℕ} 0 1 = cc in omega arith)
+is-initialize (Free ReadBuffer) = no (λ e. let z : _≡_ {A = ℕ} 0 1 = cc in omega arith)
+is-initialize (OnDisk command) = no (λ e. let z : _≡_ {A = ℕ} 0 1 = cc in omega arith)
+is-initialize Unknown = no (λ e. let z : _≡_ {A = ℕ} 0 1 = cc in omega arith)
+
+not-true : (x : Bool) → (x ≡ true → ⊥) → x ≡ false
+not-true true h = absurd (h refl)
+not-true false h = refl
+
+-- ---- Format Drive that does not end well leaves the image
+module _ (b : Block) (given : List ℕ) (area : ℕ) (entry : Drive) (buffer image : List ℕ) where
+  abbrev Left : Effect → Type 0
+  Left e = isGood (b .drive) (e .ending .answer) ≡ false → e .image ≡ image
+
+  format-left : (p : Params) → Left (asEffect buffer (formatDrive b p buffer entry image))
+  unfolding asEffect formatDrive good
+  format-left p =
+      unless-left (λ (x : Made). Left (asEffect buffer x)) _ (b .drive) entry (λ e. made e image) _ (λ e bad. refl)
+      (λ passed bad. absurd (true≢false (sym (is-good (b .drive) 0 0) ∙ bad)))
+
+  carried-left : (s : Setting) → Left (carryOut b s given entry buffer image (OnDisk (TrackWork FormatDrive)))
+  unfolding carryOut doDisk doTrack
+  carried-left (Valid p) bad = format-left p bad
+  carried-left Invalid bad = refl
+
+  failed-format : rowFor (b .opcode) .command ≡ OnDisk (TrackWork FormatDrive) → Left (obey b given area entry buffer image)
+  unfolding obey
+  failed-format is =
+      unless-left Left _ (b .drive) entry (λ e. effect e buffer [] image) _ (λ e bad. refl) (λ passed. rw is (carried-left _))
+
+  -- so the label stays, or it is Format Drive and ends well
+  label-kept : (rowFor (b .opcode) .command ≡ OnDisk (TrackWork FormatDrive) → isGood (b .drive) (obey b given area entry buffer image .ending .answer) ≡ true → ⊥)
+      → part 0 16 (obey b given area entry buffer image .image) ≡ part 0 16 image
+  label-kept h = by (is-format (rowFor (b .opcode) .command))
+    where
+      by : Dec (rowFor (b .opcode) .command ≡ OnDisk (TrackWork FormatDrive)) → part 0 16 (obey b given area entry buffer image .image) ≡ part 0 16 image
+      by (yes is) = ap (part 0 16) (failed-format is (not-true _ (h is)))
+      by (no other) = outside-kept b given area entry buffer image 16 (omega arith) (λ is. absurd (other is)) .below 0 16 (omega arith)
+
+-- ---- The parameters in force stay but by Initialize that ends well
+record Keeps (before after : Drive) : Type 0 where
+  config : after .config ≡ before .config
+  known : after .known ≡ before .known
+
+keeps-self : (entry : Drive) → Keeps entry entry
+keeps-self entry = record { config = refl; known = refl }
+
+module _ (b : Block) (given : List ℕ) (area : ℕ) (entry : Drive) (buffer image : List ℕ) where
+  abbrev Kept : Effect → Type 0
+  Kept e = isGood (b .drive) (e .ending .answer) ≡ false → Keeps entry (e .ending .entry)
+
+  configured : (s : Setting) (config : List ℕ) → Kept (effect (initializedBy s b config entry image) buffer [] image)
+  unfolding initializedBy failed good sensed
+  configured Invalid config bad = record { config = refl; known = refl }
+  configured (Valid p) config bad = absurd (true≢false (sym (is-good (b .drive) 0 0) ∙ bad))
+
+  failing : (v : Verdict) (after : Effect) → Kept after → Kept (unless v (b .drive) entry (λ e. effect e buffer [] image) after)
+  unfolding unless refused failed sensed
+  failing (Refused number) after h bad = record { config = refl; known = refl }
+  failing (Faulty code at) after h bad = record { config = refl; known = refl }
+  failing Passed after h bad = h bad
+
+  failed-initialize : rowFor (b .opcode) .command ≡ Free Initialize → Kept (obey b given area entry buffer image)
+  unfolding obey carryOut doFree initialize
+  failed-initialize is = failing _ _ (rw is (configured _ _))
+
+  -- of every other command
+  by-makes : {command : Command} {after : Drive} → (command ≡ Free Initialize → ⊥) → Makes b entry image command after → Keeps entry after
+  unfolding sensed initialized pendingEnded
+  by-makes h kept = keeps-self entry
+  by-makes h (sense bytes) = record { config = refl; known = refl }
+  by-makes h (initial config bytes) = absurd (h refl)
+  by-makes h (formatted bytes) = record { config = refl; known = refl }
+
+  by-obeyed : (command : Command) (e : Effect) → (command ≡ Free Initialize → ⊥) → Obeyed b given entry buffer image command e → Keeps entry (e .ending .entry)
+  unfolding refused
+  by-obeyed command e h (answered r) = by-makes h (r .makes)
+  by-obeyed command e h (denied number l m is) = rw is (keeps-self entry)
+
+  entry-kept : (rowFor (b .opcode) .command ≡ Free Initialize → isGood (b .drive) (obey b given area entry buffer image .ending .answer) ≡ true → ⊥)
+      → Keeps entry (obey b given area entry buffer image .ending .entry)
+  entry-kept h = by (is-initialize (rowFor (b .opcode) .command))
+    where
+      by : Dec (rowFor (b .opcode) .command ≡ Free Initialize) → Keeps entry (obey b given area entry buffer image .ending .entry)
+      by (yes is) = failed-initialize is (not-true _ (h is))
+      by (no other) = by-obeyed _ _ other (obeyed b given area entry buffer image)
+
+-- an entry stored in the place of one that it keeps; where the record has no such drive, it has none before and after
+stored-kept : (l : List Drive) (d : ℕ) (x : Drive) → Keeps (getD l d blankDrive) x → Keeps (getD l d blankDrive) (getD (set l d x) d blankDrive)
+stored-kept l d x k = by (decLt d (length l))
+  where
+    by : Dec (d < length l) → Keeps (getD l d blankDrive) (getD (set l d x) d blankDrive)
+    by (yes h) = rw (getD-set-same l d x blankDrive h) k
+    by (no h) =
+        let past : length l ≤ d = omega (arith, h) in
+        let still : length (set l d x) ≤ d = rw (length-set l d x) past in
+        rw (List·getD-eq-default l blankDrive past, List·getD-eq-default (set l d x) blankDrive still) (keeps-self blankDrive)
+
+-- ---- Any call
+module _ (c : Controller) (block given area : List ℕ) (images : List (List ℕ)) (d : ℕ) where
+  abbrev b : Block
+  b = blockOf block
+
+  abbrev done : Effect
+  done = obey b given (length area) (driveAt c (b .drive)) (c .buffer) (imageOf (b .drive) images)
+
+  abbrev result : Result
+  result = left (b .drive) done c area images
+
+  label-by : (own : Bool) → eqb (b .drive) d ≡ own → eqb (length block) 6 ≡ true
+      → (Is (OnDisk (TrackWork FormatDrive)) d block (result .outcome .answer) → ⊥) → part 0 16 (imageOf d (result .images)) ≡ part 0 16 (imageOf d images)
+  unfolding Is
+  label-by false e six h = ap (part 0 16) (other-image (b .drive) done c area images d (λ z. eqb-false _ _ e (sym z)))
+  label-by true e six h =
+      let z : b .drive ≡ d = eqb-true _ _ e in
+      rw (← z)
+      (ap (part 0 16) (its-image c block given area images)
+      ∙ label-kept b given (length area) (driveAt c (b .drive)) (c .buffer) (imageOf (b .drive) images)
+      (λ is ok. h (eqb-true _ _ six, z, is, rw (← z) (rw (its-answer c block given area images) ok))))
+
+  label-at : (six : Bool) → eqb (length block) 6 ≡ six
+      → (Is (OnDisk (TrackWork FormatDrive)) d block (execute c block given area images .outcome .answer) → ⊥)
+      → part 0 16 (imageOf d (execute c block given area images .images)) ≡ part 0 16 (imageOf d images)
+  label-at false e h = ap (λ (l : List (List ℕ)). part 0 16 (imageOf d l)) (not-six c block given area images e)
+  label-at true e h = let x = six-bytes c block given area images e in rw x (label-by (eqb (b .drive) d) refl e (rw x at h))
+
+  own-kept : Keeps (driveAt c (b .drive)) (done .ending .entry) → Keeps (driveAt c (b .drive)) (driveAt (result .outcome .controller) (b .drive))
+  unfolding driveAt left
+  own-kept k = stored-kept (c .drives) (b .drive) (done .ending .entry) k
+
+  entry-by : (own : Bool) → eqb (b .drive) d ≡ own → eqb (length block) 6 ≡ true
+      → (Is (Free Initialize) d block (result .outcome .answer) → ⊥) → Keeps (driveAt c d) (driveAt (result .outcome .controller) d)
+  unfolding Is
+  entry-by false e six h = rw (other-entry (b .drive) done c area images d (λ z. eqb-false _ _ e (sym z))) (keeps-self (driveAt c d))
+  entry-by true e six h =
+      let z : b .drive ≡ d = eqb-true _ _ e in
+      rw (← z)
+      (own-kept
+      (entry-kept b given (length area) (driveAt c (b .drive)) (c .buffer) (imageOf (b .drive) images)
+      (λ is ok. h (eqb-true _ _ six, z, is, rw (← z) (rw (its-answer c block given area images) ok)))))
+
+  entry-at : (six : Bool) → eqb (length block) 6 ≡ six
+      → (Is (Free Initialize) d block (execute c block given area images .outcome .answer) → ⊥)
+      → Keeps (driveAt c d) (driveAt (execute c block given area images .outcome .controller) d)
+  entry-at false e h = rw (not-six-record c block given area images e) (keeps-self (driveAt c d))
+  entry-at true e h = let x = six-bytes c block given area images e in rw x (entry-by (eqb (b .drive) d) refl e (rw x at h))
+
+pub label-stays : LabelStays
+unfolding LabelStays
+label-stays c block given area images d h = label-at c block given area images d (eqb (length block) 6) refl h
+
+pub parameters-stay : ParametersStay
+unfolding ParametersStay
+parameters-stay c block given area images d h = let k = entry-at c block given area images d (eqb (length block) 6) refl h in (k .config, k .known)
