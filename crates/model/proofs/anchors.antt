@@ -8,4 +8,5 @@ pub mod Damage
 pub mod Session
 pub mod Floppies
 pub mod Examples
+pub mod Leaves
 pub mod Records

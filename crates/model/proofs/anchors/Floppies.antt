@@ -21,7 +21,7 @@ use Rattle.model.specs.Machine.{fillingOn, filling, fromOn, reformatted}
 use Rattle.model.specs.Machine.{formatDrive, checkTrack, formatTrack, formatBadTrack, read, write, assignTo, assignAlternate, isStored, initializeBy}
 use Rattle.model.specs.Machine.{freely, seeking, onTracks, onSectors, withParameters, carried, settingWith, seen, ordered, restored, step}
 use Rattle.model.specs.Claim.{replies}
-use Rattle.model.proofs.anchors.Session.{Line, brief, says, four, six, sent, senses, lengthsOf, Answers}
+use Rattle.model.proofs.anchors.Session.{Line, told, allTold, says, four, six, sent, senses, lengthsOf, Answers}
 
 -- a floppy of two cylinders and one head; one track of a hard disk
 floppy : List ℕ
@@ -60,7 +60,7 @@ formatting =
     ∷ sent (six 0x04 0x40 0 0 16 0) [] (says 0 0x42 0 0 [])
     ∷ senses 2 0x22 0x40 0 0
     ∷ sent (six 0x04 0x40 0 0 15 0x20) [] (says 0 0x40 0 0 [])
-    ∷ sent (six 0x08 0x40 0 31 1 0) [] (says 0 0x40 1 128 (four 0xE5 0xE5 0xE5 0xE5))
+    ∷ sent (six 0x08 0x40 0 31 1 0) [] (says 0 0x40 1 128 (replicate 128 0xE5))
     ∷ []
 
 -- ---- Two sectors over the boundary of the tracks, written and read. After Reset the label is in force, and with its own bytes it
@@ -70,11 +70,11 @@ transferring =
     sent (six 0x11 0x40 0 0 0 0) floppy (says 0 0x40 0 0 [])
     ∷ sent (six 0x04 0x40 0 0 3 0) [] (says 0 0x40 0 0 [])
     ∷ sent (six 0x0A 0x40 0 15 2 0) (replicate 128 8 ++ replicate 128 9) (says 0 0x40 2 0 [])
-    ∷ sent (six 0x08 0x40 0 15 2 0) [] (says 0 0x40 2 256 (four 8 8 8 8))
+    ∷ sent (six 0x08 0x40 0 15 2 0) [] (says 0 0x40 2 256 (replicate 128 8 ++ replicate 128 9))
     ∷ record { call = reset; answer = says 0 0 0 0 [] }
-    ∷ sent (six 0x08 0x40 0 16 1 0) [] (says 0 0x40 1 128 (four 9 9 9 9))
+    ∷ sent (six 0x08 0x40 0 16 1 0) [] (says 0 0x40 1 128 (replicate 128 9))
     ∷ sent (six 0x11 0x40 0 0 0 0) floppy (says 0 0x40 0 0 [])
-    ∷ sent (six 0x08 0x40 0 15 1 0) [] (says 0 0x40 1 128 (four 8 8 8 8))
+    ∷ sent (six 0x08 0x40 0 15 1 0) [] (says 0 0x40 1 128 (replicate 128 8))
     ∷ sent (six 0x08 0x00 0 0 1 0) [] (says 0 0x02 0 0 [])
     ∷ senses 0 0x0A 0x00 0 0
     ∷ []
@@ -87,11 +87,11 @@ marking =
     ∷ sent (six 0x07 0x40 0 16 1 0x20) [] (says 0 0x42 0 0 [])
     ∷ senses 2 0x22 0x40 0 0
     ∷ sent (six 0x07 0x40 0 16 1 0) [] (says 0 0x40 0 0 [])
-    ∷ sent (six 0x08 0x40 0 15 2 0) [] (says 0 0x42 1 128 (four 0xE5 0xE5 0xE5 0xE5))
+    ∷ sent (six 0x08 0x40 0 15 2 0) [] (says 0 0x42 1 128 (replicate 128 0xE5))
     ∷ senses 2 0x99 0x40 0 16
     ∷ sent (six 0x0F 0x40 0 0 0 0) (replicate 512 7) (says 0 0x40 0 0 [])
     ∷ sent (six 0x06 0x40 0 16 1 0x20) [] (says 0 0x40 0 0 [])
-    ∷ sent (six 0x08 0x40 0 16 1 0) [] (says 0 0x40 1 128 (four 0xE5 0xE5 0xE5 0xE5))
+    ∷ sent (six 0x08 0x40 0 16 1 0) [] (says 0 0x40 1 128 (replicate 128 0xE5))
     ∷ sent (six 0x05 0x40 0 16 1 0) [] (says 0 0x42 0 0 [])
     ∷ senses 2 0x22 0x40 0 0
     ∷ sent (six 0x0E 0x40 0 0 1 0) (0 ∷ 0 ∷ 16 ∷ []) (says 0 0x42 0 0 [])
@@ -100,7 +100,7 @@ marking =
 
 pub worked : Answers (lengthsOf 8464 0 4368 0) lacking × Answers (lengthsOf 8464 0 4368 0) mistaking × Answers (lengthsOf 8464 0 4368 0) formatting
     × Answers (lengthsOf 8464 0 4368 0) transferring × Answers (lengthsOf 8464 0 4368 0) marking
-unfolding brief says four six sent senses floppy hard lacking mistaking formatting transferring marking lengthsOf Answers pick sameBytes mediumOf isFloppy isIn rangesOf sizeFor fittedTo
+unfolding told allTold says four six sent senses floppy hard lacking mistaking formatting transferring marking lengthsOf Answers pick sameBytes mediumOf isFloppy isIn rangesOf sizeFor fittedTo
     fieldsIn settingBy settingOf
     blockOf countOf fromBuffer rowFor presentWith judge judged inOrder hitsOf isUnknown blockWrong controlWrong withParams interleaveWrong pastEnd notSpared isValid reachOf sizeIn bytesOf isAmong checkNumber
     addressed senseOf freshDisk freshMachine changed withSense withBuffer withDisk inForce becomes filled storing failing well providing

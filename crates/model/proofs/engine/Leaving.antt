@@ -1,5 +1,5 @@
 -- What each command can leave. Numbers 1, 2 and 3 and no others refuse, and a refusal changes nothing at all.
-use Prim.Native.Nat.{ℕ, zero, suc, _≤_}
+use Prim.Native.Nat.{ℕ, zero, suc, _+_, _*_, _≤_}
 use mathlib.Core.Path.{_≡_, refl}
 use mathlib.Core.Bool.{Bool, true, false, not}
 use mathlib.Core.List.{List, [], _∷_}
@@ -41,33 +41,81 @@ use Rattle.model.specs.declared.verdict.Verdict.the-variants.{Refused, F
 use Rattle.model.specs.Block.{blockOf, countOf}
 use Rattle.model.specs.Table.{rowFor}
 use Rattle.model.specs.Checks.{Test, on, refuses, judged, inOrder, judge}
+use Rattle.model.specs.Sense.{addressed, senseOf}
 use Rattle.model.specs.Record.{driveAt, blankDrive, sensed, refused, failed, good, unless, Effect, effect, Made, made}
 use Rattle.model.specs.Commands.{pendingEnded, formatDrive, checkTests, checkTrack, aloneTests, formatTrack, transferEnding, transferred, read, write}
 use Rattle.model.specs.Commands.{assignTests, assignAlternate, initialized, initializedBy, initialize, doFree, doArm, doTrack, doSectors, asEffect, doDisk, carryOut}
 use Rattle.model.specs.Engine.{obey, Result, imageOf, left, onDrive, execute}
 
--- ---- What becomes of the entry of the drive: apart from the sense, only Initialize and Format Drive change it
-pub data Makes (b : Block) (entry : Drive) (image : List ℕ) : Command → Drive → Type 0 where
-  kept : Makes b entry image (Free RequestSense) entry
-  sense : {command : Command} (bytes : List ℕ) → Makes b entry image command (sensed bytes entry)
-  initial : (config bytes : List ℕ)
-      → Makes b entry image (Free Initialize) (sensed bytes (initialized config (not (labelHolds (mediumOf (b .drive)) image config)) entry))
-  formatted : (bytes : List ℕ) → Makes b entry image (OnDisk (TrackWork FormatDrive)) (sensed bytes (pendingEnded entry))
+-- ---- What becomes of the entry of the drive, by the status
+-- The sense after a good end: no code, the number of the drive, no address.
+abbrev pub clear : Block → List ℕ
+clear b = 0 ∷ 32 * b .drive ∷ 0 ∷ 0 ∷ []
 
--- of the buffer: Read and Write change its front, Write Buffer all of it
-pub data Fills (given buffer : List ℕ) : Command → List ℕ → Type 0 where
-  as-was : {command : Command} → Fills given buffer command buffer
-  front : {command : SectorCommand} (last : List ℕ) → Fills given buffer (OnDisk (SectorWork command)) (splice 0 last buffer)
-  taken : Fills given buffer (Free WriteBuffer) (part 0 512 given)
+-- The commands that change nothing but the sense of an entry. Request Sense does not even do that, and Initialize and Format
+-- Drive do more.
+unfoldable pub isPlain : Command → Bool
+isPlain (Free RequestSense) = false
+isPlain (Free Initialize) = false
+isPlain (Free WriteBuffer) = true
+isPlain (Free ReadBuffer) = true
+isPlain (OnDisk (ArmWork command)) = true
+isPlain (OnDisk (TrackWork FormatDrive)) = false
+isPlain (OnDisk (TrackWork CheckTrack)) = true
+isPlain (OnDisk (TrackWork FormatTrack)) = true
+isPlain (OnDisk (TrackWork FormatBadTrack)) = true
+isPlain (OnDisk (TrackWork AssignAlternate)) = true
+isPlain (OnDisk (SectorWork command)) = true
+isPlain Unknown = false
 
--- the bytes handed over
-pub data Hands (entry : Drive) (buffer : List ℕ) : Command → List ℕ → Type 0 where
-  nothing : {command : Command} → Hands entry buffer command []
-  own-sense : Hands entry buffer (Free RequestSense) (entry .sense)
-  own-buffer : Hands entry buffer (Free ReadBuffer) buffer
-  read-out : (bytes : List ℕ) → Hands entry buffer (OnDisk (SectorWork Read)) bytes
+-- Any command can end with a code, which is in the sense then.
+pub data Makes (b : Block) (entry : Drive) (image : List ℕ) : Command → (status : ℕ) → Drive → Type 0 where
+  coded : {command : Command} (code : ℕ) (at : Lba) → Makes b entry image command (2 + 32 * b .drive) (sensed (senseOf code (b .drive) at) entry)
+  cleared : {command : Command} → isPlain command ≡ true → Makes b entry image command (32 * b .drive) (sensed (clear b) entry)
+  kept : Makes b entry image (Free RequestSense) (32 * b .drive) entry
+  initial : (config : List ℕ)
+      → Makes b entry image (Free Initialize) (32 * b .drive)
+      (sensed (clear b) (initialized config (not (labelHolds (mediumOf (b .drive)) image config)) entry))
+  formatted : Makes b entry image (OnDisk (TrackWork FormatDrive)) (32 * b .drive) (sensed (clear b) (pendingEnded entry))
 
--- and of the image of the drive: only formats, Assign Alternate and Write change it
+-- ---- Of the buffer: Write Buffer takes the data given, Read and Write change its front, every other command leaves it
+unfoldable pub sparesBuffer : Command → Bool
+sparesBuffer (Free RequestSense) = true
+sparesBuffer (Free Initialize) = true
+sparesBuffer (Free WriteBuffer) = false
+sparesBuffer (Free ReadBuffer) = true
+sparesBuffer (OnDisk (ArmWork command)) = true
+sparesBuffer (OnDisk (TrackWork command)) = true
+sparesBuffer (OnDisk (SectorWork command)) = false
+sparesBuffer Unknown = true
+
+pub data Fills (b : Block) (given buffer : List ℕ) : Command → (status : ℕ) → List ℕ → Type 0 where
+  as-was : {command : Command} {status : ℕ} → sparesBuffer command ≡ true → Fills b given buffer command status buffer
+  taken : Fills b given buffer (Free WriteBuffer) (32 * b .drive) (part 0 512 given)
+  untaken : Fills b given buffer (Free WriteBuffer) (2 + 32 * b .drive) buffer
+  front : {command : SectorCommand} {status : ℕ} (last : List ℕ) → Fills b given buffer (OnDisk (SectorWork command)) status (splice 0 last buffer)
+
+-- ---- The bytes handed over: the sense by Request Sense, the buffer by Read Buffer, sectors by Read, by every other command none
+unfoldable pub isQuiet : Command → Bool
+isQuiet (Free RequestSense) = false
+isQuiet (Free Initialize) = true
+isQuiet (Free WriteBuffer) = true
+isQuiet (Free ReadBuffer) = false
+isQuiet (OnDisk (ArmWork command)) = true
+isQuiet (OnDisk (TrackWork command)) = true
+isQuiet (OnDisk (SectorWork Read)) = false
+isQuiet (OnDisk (SectorWork Write)) = true
+isQuiet Unknown = true
+
+pub data Hands (b : Block) (entry : Drive) (buffer : List ℕ) : Command → (status : ℕ) → List ℕ → Type 0 where
+  nothing : {command : Command} {status : ℕ} → isQuiet command ≡ true → Hands b entry buffer command status []
+  no-sense : Hands b entry buffer (Free RequestSense) (2 + 32 * b .drive) []
+  own-sense : Hands b entry buffer (Free RequestSense) (32 * b .drive) (entry .sense)
+  no-buffer : Hands b entry buffer (Free ReadBuffer) (2 + 32 * b .drive) []
+  own-buffer : Hands b entry buffer (Free ReadBuffer) (32 * b .drive) buffer
+  read-out : {status : ℕ} (bytes : List ℕ) → Hands b entry buffer (OnDisk (SectorWork Read)) status bytes
+
+-- ---- And of the image of the drive: only formats, Assign Alternate and Write change it
 pub data Writes (image : List ℕ) : Command → List ℕ → Type 0 where
   untouched : {command : Command} → Writes image command image
   drive-format : (after : List ℕ) → Writes image (OnDisk (TrackWork FormatDrive)) after
@@ -80,9 +128,9 @@ pub data Writes (image : List ℕ) : Command → List ℕ → Type 0 where
 pub record LeavesBy (b : Block) (given : List ℕ) (entry : Drive) (buffer image : List ℕ) (command : Command) (e : Effect) : Type 0 where
   pub number : e .ending .answer .number ≡ 0
   pub bytes : e .ending .answer .bytes ≡ length (e .handed)
-  pub makes : Makes b entry image command (e .ending .entry)
-  pub fills : Fills given buffer command (e .buffer)
-  pub hands : Hands entry buffer command (e .handed)
+  pub makes : Makes b entry image command (e .ending .answer .status) (e .ending .entry)
+  pub fills : Fills b given buffer command (e .ending .answer .status) (e .buffer)
+  pub hands : Hands b entry buffer command (e .ending .answer .status) (e .handed)
   pub writes : Writes image command (e .image)
 
 -- ---- Verdicts: the order of checks refuses with 2 or 3 only, own checks never
@@ -148,35 +196,59 @@ module _ (b : Block) (given : List ℕ) (entry : Drive) (buffer image : List ℕ
   abbrev LeavesAs : Command → Effect → Type 0
   LeavesAs = LeavesBy b given entry buffer image
 
-  -- good or failed, and nothing done but to the sense
-  well : (command : Command) → LeavesAs command (effect (good (b .drive) 0 0 entry) buffer [] image)
-  unfolding good
-  well command = record { number = refl; bytes = refl; makes = sense _; fills = as-was; hands = nothing; writes = untouched }
+  good-makes : {command : Command} → isPlain command ≡ true → Makes b entry image command (32 * b .drive) (sensed (senseOf 0 (b .drive) (record { 0 = 0 })) entry)
+  unfolding senseOf addressed pick
+  good-makes only = cleared only
+
+  -- a code, and nothing done
+  fault-fills : (command : Command) → Fills b given buffer command (2 + 32 * b .drive) buffer
+  unfolding splice sparesBuffer
+  fault-fills (Free RequestSense) = as-was refl
+  fault-fills (Free WriteBuffer) = untaken
+  fault-fills (Free ReadBuffer) = as-was refl
+  fault-fills (Free Initialize) = as-was refl
+  fault-fills (OnDisk (ArmWork command)) = as-was refl
+  fault-fills (OnDisk (TrackWork command)) = as-was refl
+  fault-fills (OnDisk (SectorWork command)) = front []
+  fault-fills Unknown = as-was refl
+
+  fault-hands : (command : Command) → Hands b entry buffer command (2 + 32 * b .drive) []
+  unfolding isQuiet
+  fault-hands (Free RequestSense) = no-sense
+  fault-hands (Free WriteBuffer) = nothing refl
+  fault-hands (Free ReadBuffer) = no-buffer
+  fault-hands (Free Initialize) = nothing refl
+  fault-hands (OnDisk (ArmWork command)) = nothing refl
+  fault-hands (OnDisk (TrackWork command)) = nothing refl
+  fault-hands (OnDisk (SectorWork Read)) = read-out []
+  fault-hands (OnDisk (SectorWork Write)) = nothing refl
+  fault-hands Unknown = nothing refl
 
   faulty : (command : Command) (code : ℕ) (at : Lba) → LeavesAs command (effect (failed (b .drive) (b .drive) code at 0 0 entry) buffer [] image)
   unfolding failed
-  faulty command code at = record { number = refl; bytes = refl; makes = sense _; fills = as-was; hands = nothing; writes = untouched }
+  faulty command code at =
+      record { number = refl; bytes = refl; makes = coded code at; fills = fault-fills command; hands = fault-hands command; writes = untouched }
 
   -- ---- Free
   configured : (s : Setting) (config : List ℕ) → LeavesAs (Free Initialize) (effect (initializedBy s b config entry image) buffer [] image)
-  unfolding initializedBy good
+  unfolding initializedBy good senseOf addressed pick sparesBuffer isQuiet
   configured Invalid config = faulty (Free Initialize) 0x22 (b .address)
   configured (Valid p) config =
-      record { number = refl; bytes = refl; makes = initial config _; fills = as-was; hands = nothing; writes = untouched }
+      record { number = refl; bytes = refl; makes = initial config; fills = as-was refl; hands = nothing refl; writes = untouched }
 
   free-ends : (command : FreeCommand) → LeavesAs (Free command) (doFree b given entry buffer image command)
-  unfolding doFree initialize good
-  free-ends RequestSense = record { number = refl; bytes = refl; makes = kept; fills = as-was; hands = own-sense; writes = untouched }
-  free-ends WriteBuffer = record { number = refl; bytes = refl; makes = sense _; fills = taken; hands = nothing; writes = untouched }
-  free-ends ReadBuffer = record { number = refl; bytes = refl; makes = sense _; fills = as-was; hands = own-buffer; writes = untouched }
+  unfolding doFree initialize good senseOf addressed pick isPlain sparesBuffer isQuiet
+  free-ends RequestSense = record { number = refl; bytes = refl; makes = kept; fills = as-was refl; hands = own-sense; writes = untouched }
+  free-ends WriteBuffer = record { number = refl; bytes = refl; makes = cleared refl; fills = taken; hands = nothing refl; writes = untouched }
+  free-ends ReadBuffer = record { number = refl; bytes = refl; makes = cleared refl; fills = as-was refl; hands = own-buffer; writes = untouched }
   free-ends Initialize = configured _ _
 
   -- ---- On the disk
   arm-ends : (command : ArmCommand) → LeavesAs (OnDisk (ArmWork command)) (effect (doArm b entry command) buffer [] image)
-  unfolding doArm
-  arm-ends TestReady = well _
-  arm-ends Recalibrate = well _
-  arm-ends Seek = well _
+  unfolding doArm good isPlain sparesBuffer isQuiet
+  arm-ends TestReady = record { number = refl; bytes = refl; makes = good-makes refl; fills = as-was refl; hands = nothing refl; writes = untouched }
+  arm-ends Recalibrate = record { number = refl; bytes = refl; makes = good-makes refl; fills = as-was refl; hands = nothing refl; writes = untouched }
+  arm-ends Seek = record { number = refl; bytes = refl; makes = good-makes refl; fills = as-was refl; hands = nothing refl; writes = untouched }
 
   module _ (p : Params) where
     -- by own checks, of a command that may change the image
@@ -188,36 +260,38 @@ module _ (b : Block) (given : List ℕ) (entry : Drive) (buffer image : List ℕ
         (faulty (OnDisk (TrackWork command)))
 
     track-ends : (command : TrackCommand) → LeavesAs (OnDisk (TrackWork command)) (asEffect buffer (doTrack b p buffer given entry image command))
-    unfolding doTrack asEffect formatDrive checkTrack checkTests formatTrack aloneTests assignAlternate assignTests good
+    unfolding doTrack asEffect formatDrive checkTrack checkTests formatTrack aloneTests assignAlternate assignTests good senseOf addressed pick isPlain sparesBuffer isQuiet
     track-ends FormatDrive =
         by-own FormatDrive _ (judged-by (faults done))
-        (record { number = refl; bytes = refl; makes = formatted _; fills = as-was; hands = nothing; writes = drive-format _ })
+        (record { number = refl; bytes = refl; makes = formatted; fills = as-was refl; hands = nothing refl; writes = drive-format _ })
     track-ends CheckTrack =
         own (λ (x : Ending). LeavesAs (OnDisk (TrackWork CheckTrack)) (effect x buffer [] image)) (b .drive) entry (λ e. e) _ (judged-by (faults done))
-        (faulty (OnDisk (TrackWork CheckTrack))) (well (OnDisk (TrackWork CheckTrack)))
+        (faulty (OnDisk (TrackWork CheckTrack))) (record { number = refl; bytes = refl; makes = cleared refl; fills = as-was refl; hands = nothing refl; writes = untouched })
     track-ends FormatTrack =
         by-own FormatTrack _ (judged-by (faults (faults done)))
-        (record { number = refl; bytes = refl; makes = sense _; fills = as-was; hands = nothing; writes = track-format _ })
+        (record { number = refl; bytes = refl; makes = cleared refl; fills = as-was refl; hands = nothing refl; writes = track-format _ })
     track-ends FormatBadTrack =
         by-own FormatBadTrack _ (judged-by (faults (faults done)))
-        (record { number = refl; bytes = refl; makes = sense _; fills = as-was; hands = nothing; writes = bad-format _ })
+        (record { number = refl; bytes = refl; makes = cleared refl; fills = as-was refl; hands = nothing refl; writes = bad-format _ })
     track-ends AssignAlternate =
         by-own AssignAlternate _ (judged-by (faults (faults (faults (faults (faults (faults (faults done))))))))
-        (record { number = refl; bytes = refl; makes = sense _; fills = as-was; hands = nothing; writes = alternate _ })
+        (record { number = refl; bytes = refl; makes = cleared refl; fills = as-was refl; hands = nothing refl; writes = alternate _ })
 
     -- a transfer's end, whatever its code
     Finishes : (bytes : ℕ) → (command : Command) → Ending → Type 0
-    Finishes bytes command x = (x .answer .number ≡ 0) × (x .answer .bytes ≡ bytes) × Makes b entry image command (x .entry)
+    Finishes bytes command x = (x .answer .number ≡ 0) × (x .answer .bytes ≡ bytes) × Makes b entry image command (x .answer .status) (x .entry)
 
-    finishes : (sectors code bytes : ℕ) (command : Command) → Finishes bytes command (transferEnding b sectors code bytes entry)
-    unfolding Finishes transferEnding good failed
-    finishes sectors code bytes command = pick-both (Finishes bytes command) _ _ _ (refl, refl, sense _) (refl, refl, sense _)
+    finishes : (sectors code bytes : ℕ) (command : SectorCommand)
+        → Finishes bytes (OnDisk (SectorWork command)) (transferEnding b sectors code bytes entry)
+    unfolding Finishes transferEnding good failed isPlain
+    finishes sectors code bytes command =
+        pick-both (Finishes bytes (OnDisk (SectorWork command))) _ _ _ (refl, refl, good-makes refl) (refl, refl, coded code _)
 
     sectors-end : (command : SectorCommand) → LeavesAs (OnDisk (SectorWork command)) (doSectors b p given entry buffer image command)
-    unfolding doSectors read write transferred begun Finishes
+    unfolding doSectors read write transferred begun Finishes isQuiet
     sectors-end Read =
         let x = reading p (countOf b) (b .address) (begun image) in
-        let ends = finishes (x .done) (x .code) (length (x .handed)) (OnDisk (SectorWork Read)) in
+        let ends = finishes (x .done) (x .code) (length (x .handed)) Read in
         record {
           number = ends .0;
           bytes = ends .1;
@@ -228,13 +302,13 @@ module _ (b : Block) (given : List ℕ) (entry : Drive) (buffer image : List ℕ
         }
     sectors-end Write =
         let x = writing p (countOf b) (b .address) given (begun image) in
-        let ends = finishes (x .done) (x .code) (length (x .handed)) (OnDisk (SectorWork Write)) in
+        let ends = finishes (x .done) (x .code) (length (x .handed)) Write in
         record {
           number = ends .0;
           bytes = ends .1;
           makes = ends .2;
           fills = front _;
-          hands = rw (write-handed (countOf b) (b .address) p given (begun image)) nothing;
+          hands = rw (write-handed (countOf b) (b .address) p given (begun image)) (nothing refl);
           writes = stored _;
         }
 

@@ -37,7 +37,7 @@ use Rattle.model.specs.declared.record.Drive.{Drive}
 use Rattle.model.specs.declared.record.Controller.{Controller}
 use Rattle.model.specs.Block.{blockOf}
 use Rattle.model.specs.Table.{rowFor}
-use Rattle.model.specs.Feed.{Feed, reset, command}
+use Rattle.model.specs.Feed.{Feed, reset, command, Reply}
 use Rattle.model.specs.Record.{driveAt, settingIn, Effect}
 use Rattle.model.specs.Engine.{Result, obey, imagesOf, imageOf, left, onDrive, execute}
 use Rattle.model.specs.Machine.{Machine, freshMachine}
@@ -49,7 +49,7 @@ use Rattle.model.proofs.engine.Leaving.{unmoved, Answered, accepted, un
 use Rattle.model.proofs.engine.Beyond.{outside-kept}
 use Rattle.model.proofs.engine.Written.{Written, writes}
 use Rattle.model.proofs.readers.PendingCalls.{from-fresh}
-use Rattle.model.proofs.anchors.Session.{Line, brief, lengthsOf, Answers, session, worked}
+use Rattle.model.proofs.anchors.Session.{Line, allTold, lengthsOf, Answers, session, worked}
 use Rattle.model.proofs.anchors.Floppies.{lacking, mistaking, formatting, transferring, marking, worked as floppies-worked}
 
 -- ---- (a) Number 1, 2 or 3: status, message and counts 0, and controller, area and images as they were. There is no other number.
@@ -192,13 +192,13 @@ module _ (n₀ n₁ n₂ n₃ : ℕ) where
 
   EngineAnswers : List Line → Type 0
   EngineAnswers lines = (calls : List Call) → map fed calls ≡ map (λ (l : Line). l .call) lines
-      → map brief (engineReplies (begin allZeros) calls) ≡ map (λ (l : Line). l .answer) lines
+      → allTold (engineReplies (begin allZeros) calls) lines ≡ true
 
   engine-answers : (lines : List Line) → Answers (lengthsOf n₀ n₁ n₂ n₃) lines → EngineAnswers lines
   unfolding Answers EngineAnswers
-  engine-answers lines told calls is =
-      ap (map brief) (zero-claim calls .0
-      ∙ ap (replies (beginMachine allZeros)) is ∙ ap (λ (m : Machine). replies m (map (λ (l : Line). l .call) lines)) machine-same) ∙ told
+  engine-answers lines answers calls is =
+      ap (λ (told : List Reply). allTold told lines) (zero-claim calls .0
+      ∙ ap (replies (beginMachine allZeros)) is ∙ ap (λ (m : Machine). replies m (map (λ (l : Line). l .call) lines)) machine-same) ∙ answers
 
 -- every list that the machine is fed comes from calls
 callOf : Feed → Call

@@ -31,7 +31,7 @@ use Rattle.model.specs.Commands.{pendingEnded, formatDrive, initialized,
 use Rattle.model.specs.Engine.{viewOf, obey, loaded}
 use Rattle.model.proofs.engine.Checked.{opcodeFor, row-of}
 use Rattle.model.proofs.engine.Known.{setting-known}
-use Rattle.model.proofs.engine.Leaving.{Makes, kept, sense, initial, formatted, Obeyed, answered, denied, obeyed}
+use Rattle.model.proofs.engine.Leaving.{Makes, coded, cleared, kept, initial, formatted, Obeyed, answered, denied, obeyed}
 use Rattle.model.proofs.engine.Beyond.{format-label, outside-kept}
 use Rattle.model.proofs.claim.Mirrors.{KeepsLabel}
 use Rattle.model.proofs.claim.Current.{label-same}
@@ -80,13 +80,14 @@ module _ (b : Block) (given : List ℕ) (area : ℕ) (entry : Drive) (buffer ima
   medium = mediumOf (b .drive)
 
   -- one but Format Drive: the entry, by the label as it was
-  makes-pending : {command : Command} {d : Drive} → (command ≡ OnDisk (TrackWork FormatDrive) → ⊥) → Makes b entry image command d
+  makes-pending : {command : Command} {status : ℕ} {d : Drive} → (command ≡ OnDisk (TrackWork FormatDrive) → ⊥) → Makes b entry image command status d
       → PendingByLabel medium d image
   unfolding sensed initialized
   makes-pending other kept = told
-  makes-pending other (sense bytes) = told
-  makes-pending other (initial config bytes) = λ known. refl
-  makes-pending other (formatted bytes) = absurd (other refl)
+  makes-pending other (coded code at) = told
+  makes-pending other (cleared only) = told
+  makes-pending other (initial config) = λ known. refl
+  makes-pending other formatted = absurd (other refl)
 
   obeyed-pending : {command : Command} {e : Effect} → (command ≡ OnDisk (TrackWork FormatDrive) → ⊥) → Obeyed b given entry buffer image command e
       → PendingByLabel medium (e .ending .entry) image

@@ -31,7 +31,7 @@ use Rattle.model.specs.Record.{driveAt, blankDrive, sensed, failed, good
 use Rattle.model.specs.Commands.{pendingEnded, formatDrive, initialized, initializedBy, initialize, doFree, doTrack, asEffect, doDisk, carryOut}
 use Rattle.model.specs.Engine.{viewOf, obey, Result, imageOf, left, onDrive, execute}
 use Rattle.model.specs.Records.{isGood, Is, LabelStays, ParametersStay}
-use Rattle.model.proofs.engine.Leaving.{Makes, kept, sense, initial, formatted, LeavesBy, Obeyed, answered, denied, obeyed}
+use Rattle.model.proofs.engine.Leaving.{Makes, coded, cleared, kept, initial, formatted, LeavesBy, Obeyed, answered, denied, obeyed}
 use Rattle.model.proofs.engine.Beyond.{unless-left, outside-kept}
 use Rattle.model.proofs.engine.Assembled.{other-entry, other-image}
 use Rattle.model.proofs.records.Commands.{is-good}
@@ -119,12 +119,13 @@ module _ (b : Block) (given : List ℕ) (area : ℕ) (entry : Drive) (buffer ima
   failed-initialize is = failing _ _ (rw is (configured _ _))
 
   -- of every other command
-  by-makes : {command : Command} {after : Drive} → (command ≡ Free Initialize → ⊥) → Makes b entry image command after → Keeps entry after
+  by-makes : {command : Command} {status : ℕ} {after : Drive} → (command ≡ Free Initialize → ⊥) → Makes b entry image command status after → Keeps entry after
   unfolding sensed initialized pendingEnded
+  by-makes h (coded code at) = record { config = refl; known = refl }
+  by-makes h (cleared only) = record { config = refl; known = refl }
   by-makes h kept = keeps-self entry
-  by-makes h (sense bytes) = record { config = refl; known = refl }
-  by-makes h (initial config bytes) = absurd (h refl)
-  by-makes h (formatted bytes) = record { config = refl; known = refl }
+  by-makes h (initial config) = absurd (h refl)
+  by-makes h formatted = record { config = refl; known = refl }
 
   by-obeyed : (command : Command) (e : Effect) → (command ≡ Free Initialize → ⊥) → Obeyed b given entry buffer image command e → Keeps entry (e .ending .entry)
   unfolding refused
