@@ -3,4 +3,6 @@ pub mod PendingDrives
 pub mod PendingCalls
 pub mod HeldSectors
 pub mod MachineTransfers
-pub mod Corollaries
+pub mod AnyCall
+pub mod Sessions
+pub mod Labels

@@ -32,7 +32,7 @@ pub record Written (p : Params) (n : ℕ) (a : Lba) (before after : List ℕ) : 
   pub others : (t : Track) (k : ℕ) → t .0 < trackCount p → k < p .sectors → ((i : ℕ) → i < n → Finds p a i before t k → ⊥)
       → slotData p k (trackBytes p t after) ≡ slotData p k (trackBytes p t before)
 
-written-none : (p : Params) (n : ℕ) (a : Lba) (image : List ℕ) → Written p n a image image
+pub written-none : (p : Params) (n : ℕ) (a : Lba) (image : List ℕ) → Written p n a image image
 written-none p n a image = record { outside = outside-self 16 (Valid p) image; ids = λ t k ht hk. refl; others = λ t k ht hk no. refl }
 
 -- one sector in slot j of track u

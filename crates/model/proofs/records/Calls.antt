@@ -74,7 +74,7 @@ Reads b given p e =
 module _ (b : Block) (given : List ℕ) (area : ℕ) (entry : Drive) (buffer image : List ℕ)
     (passed : judge b (viewOf (mediumOf (b .drive)) entry (length image)) (length given) area ≡ Passed)
     (p : Params) (valid : settingIn (mediumOf (b .drive)) entry (length image) ≡ Valid p) where
-  good-image : Fits p image
+  pub good-image : Fits p image
   good-image = record { within = w b given area entry buffer image passed p valid; long = fits b given area entry buffer image passed p valid }
 
   on-track : (command : TrackCommand) → rowFor (b .opcode) .command ≡ OnDisk (TrackWork command) → trackOf p (b .address) .0 < trackCount p
@@ -85,7 +85,7 @@ module _ (b : Block) (given : List ℕ) (area : ℕ) (entry : Drive) (buffer ima
   on-track FormatBadTrack is = track-cleared (good-image .within) (clear b given area entry buffer image passed p valid _ is) refl refl
   on-track AssignAlternate is = track-cleared (good-image .within) (clear b given area entry buffer image passed p valid _ is) refl refl
 
-  to-write : rowFor (b .opcode) .command ≡ OnDisk (SectorWork Write) → Given p (countOf b) (b .address) given
+  pub to-write : rowFor (b .opcode) .command ≡ OnDisk (SectorWork Write) → Given p (countOf b) (b .address) given
   unfolding rowFor opcodeFor isAmong checkNumber bytesOf sizeIn
   to-write is =
       let ours = clear b given area entry buffer image passed p valid (OnDisk (SectorWork Write)) is in
