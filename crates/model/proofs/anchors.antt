@@ -7,6 +7,5 @@ pub mod Initializing
 pub mod Damage
 pub mod Session
 pub mod Floppies
-pub mod Examples
 pub mod Leaves
 pub mod Records

@@ -93,6 +93,32 @@ unfolding p config other entry controller leavesOn leaves slot old carryOut doDi
     idBytes idFor flagOf partnerOf soundFrom layoutOf laid place put emptyFrom someBelow isSome firstBelow firstFrom pick
 formats = (refl, refl, refl, refl, refl, refl, refl, refl, refl, refl)
 
+-- ---- With four sectors a track and interleave 3: sectors 0, 3, 2, 1 are in slots 0, 1, 2, 3 of every track that is made
+q : Params
+q = record { cylinders = 1; heads = 3; sectors = 4; size = 1 }
+
+makes : TrackCommand → (address : ℕ) → (given : List ℕ) → List ℕ
+makes command address given =
+    carryOut (blockOf (0 ∷ 0 ∷ 0 ∷ address ∷ 3 ∷ 0 ∷ [])) (Valid q) given (driveAt controller 0) (controller .buffer) (replicate 124 0xEE)
+    (OnDisk (TrackWork command)) .image
+
+track-of : (head flag partner : ℕ) → List ℕ
+track-of head flag partner =
+    slot 0xA1 0 0 head 0 flag 0 partner 0x6C ++ slot 0xA1 0 0 head 3 flag 0 partner 0x6C ++ slot 0xA1 0 0 head 2 flag 0 partner 0x6C
+    ++ slot 0xA1 0 0 head 1 flag 0 partner 0x6C
+
+interleaved :
+    (makes FormatTrack 5 [] ≡ old 52 ++ track-of 1 0 0 ++ old 36)
+    × (makes FormatBadTrack 5 [] ≡ old 52 ++ track-of 1 1 0 ++ old 36)
+    -- both tracks of an assignment
+    × (makes AssignAlternate 1 (0 ∷ 0 ∷ 9 ∷ []) ≡ old 16 ++ track-of 0 2 2 ++ old 36 ++ track-of 2 3 0)
+    × (makes FormatDrive 5 [] ≡ config ++ replicate 6 0 ++ old 36 ++ track-of 1 0 0 ++ track-of 2 0 0)
+unfolding q config other entry controller makes track-of slot old carryOut doDisk doTrack asEffect formatDrive formatTrack assignAlternate assigned driveFormatted madeAt
+    plainByte plainFill fillOf fromBuffer mediumOf isFloppy blockOf alternateOf judged aloneTests assignTests isBad isMoved isTaken unless driveAt blankDrive
+    pairSplit splits stateOf stateBy firstId idIn ownId trackBytes slotId withTrack part splice rows formatted slotsMade slotMade withSector
+    idBytes idFor flagOf partnerOf soundFrom layoutOf laid place put emptyFrom someBelow isSome firstBelow firstFrom pick
+interleaved = (refl, refl, refl, refl)
+
 -- Track 1 made bad, on a stretch of five slots with interleave 2: after each number of steps the slots so far are there, whole and
 -- in slot order.
 after : (k : ℕ) → List ℕ

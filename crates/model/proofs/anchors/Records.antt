@@ -1,5 +1,6 @@
--- The two theorems of records on a drive: a floppy of two tracks, its image zero throughout, is initialized and formatted with
--- interleave 2, two sectors are written over the track boundary, and the second track is formatted again.
+-- The theorems of records on a drive: a floppy of two tracks, zero throughout and two bytes longer than it must be, is initialized
+-- and formatted with interleave 2, two sectors are written over the track boundary, and the second track is formatted again. Drive
+-- 3 has no parameters.
 use Prim.Native.Nat.{ℕ}
 use mathlib.Core.Path.{_≡_, refl, ap, _∙_}
 use mathlib.Core.Bool.{Bool, true, false, _&&_}
@@ -12,7 +13,7 @@ use Rattle.base.specs.First.{firstFrom, firstBelow, isSome, someBelow}
 use Rattle.base.specs.Same.{sameBytes}
 use Rattle.geometry.specs.declared.params.Lba.{Lba}
 use Rattle.geometry.specs.declared.params.Params.{Params}
-use Rattle.geometry.specs.declared.config.Setting.the-variants.{Valid}
+use Rattle.geometry.specs.declared.config.Setting.the-variants.{Valid, Invalid}
 use Rattle.geometry.specs.Medium.{mediumOf, isFloppy, isIn, rangesOf}
 use Rattle.geometry.specs.Config.{sizeFor, fittedTo, fieldsIn, settingBy, settingOf, isValid, labelSetting, labelHolds}
 use Rattle.interleave.specs.Layout.{emptyFrom, put, place, laid, layoutOf}
@@ -24,6 +25,10 @@ use Rattle.track.specs.Pair.{stateBy, stateOf, splits, pairSplit}
 use Rattle.formatter.specs.Format.{slotMade, slotsMade, formatted, soundFrom}
 use Rattle.sectors.specs.Transfer.{begun, ended, writeSlot, onward, found, writing}
 use Rattle.contents.specs.Content.{Bytes, contentIn, contentOf}
+use Rattle.model.specs.declared.table.Command.the-variants.{Free, OnDisk}
+use Rattle.model.specs.declared.table.FreeCommand.the-variants.{Initialize}
+use Rattle.model.specs.declared.table.DiskCommand.the-variants.{TrackWork}
+use Rattle.model.specs.declared.table.TrackCommand.the-variants.{FormatDrive}
 use Rattle.model.specs.Block.{blockOf, countOf, fromBuffer}
 use Rattle.model.specs.Table.{checkNumber, isAmong, rowFor}
 use Rattle.model.specs.Checks.{judged, presentWith, isUnknown, blockWrong, controlWrong, withParams, interleaveWrong, pastEnd, notSpared, sizeIn, bytesOf, reachOf, hitsOf, inOrder, judge}
@@ -33,16 +38,18 @@ use Rattle.model.specs.Commands.{plainByte, plainFill, fillOf, madeAt, d
 use Rattle.model.specs.Commands.{initialized, initializedBy, initialize, doFree, doTrack, doSectors, asEffect, doDisk, carryOut}
 use Rattle.model.specs.Engine.{viewOf, obey, Result, imagesOf, imageOf, left, onDrive, execute, loadedBy, loaded, fresh, resetOf}
 use Rattle.model.specs.Records.{isGood, oneTrack, onTracks, namedBy, named, NoOtherRecord, WrittenReads}
+use Rattle.model.specs.Records.{NoneWithoutParameters, Is, LabelStays, ParametersStay, PastStays}
 use Rattle.model.specs.declared.record.Answer.{Answer}
-use Rattle.model.proofs.records.Calls.{no-other-record, written-reads}
+use Rattle.model.proofs.records.Calls.{no-other-record, written-reads, none-without-parameters, past-stays}
+use Rattle.model.proofs.records.Places.{label-stays, parameters-stay}
 
 p : Params
 p = record { cylinders = 1; heads = 2; sectors = 16; size = 128 }
 
--- drive 2 has 16 + 2 × 16 × 136 bytes
+-- drive 2 has 16 + 2 × 16 × 136 bytes, and two more
 start : Result
 start =
-    let images = imagesOf [] [] (replicate 4368 0) [] in
+    let images = imagesOf [] [] (replicate 4368 0 ++ (0xEE ∷ 0xED ∷ [])) (replicate 20 5) in
     record { outcome = resetOf images; area = []; images = images }
 
 then : Result → (block given : List ℕ) → Result
@@ -54,8 +61,11 @@ block opcode address extra = opcode ∷ 0x40 ∷ 0 ∷ address ∷ extra ∷ 0 �
 sectors : List ℕ
 sectors = replicate 128 7 ++ replicate 128 8
 
+config : List ℕ
+config = 0 ∷ 1 ∷ 2 ∷ 1 ∷ 0 ∷ 0 ∷ 0 ∷ 0 ∷ 0 ∷ 0 ∷ []
+
 made : Result
-made = then (then start (block 0x11 0 0) (0 ∷ 1 ∷ 2 ∷ 1 ∷ 0 ∷ 0 ∷ 0 ∷ 0 ∷ 0 ∷ 0 ∷ [])) (block 0x04 0 2) []
+made = then (then start (block 0x11 0 0) config) (block 0x04 0 2) []
 
 wrote : Result
 wrote = then made (block 0x0A 15 2) sectors
@@ -72,7 +82,13 @@ facts :
     × (settingIn (mediumOf 2) (driveAt (wrote .outcome .controller) 2) (length (imageOf 2 (wrote .images))) ≡ Valid p)
     × (wrote .outcome .answer .sectors ≡ 2)
     × (contentOf p (lba 17) (imageOf 2 (made .images)) ≡ Bytes (replicate 128 0xE5))
-unfolding p start then block sectors made wrote lba pick part splice rows firstFrom firstBelow isSome someBelow sameBytes
+    × (part 0 16 (imageOf 2 (made .images)) ≡ config ++ replicate 6 0)
+    × (part 4368 2 (imageOf 2 (made .images)) ≡ 0xEE ∷ 0xED ∷ [])
+    × (driveAt (made .outcome .controller) 2 .config ≡ config)
+    × (imageOf 3 (made .images) ≡ replicate 20 5)
+    × (settingIn (mediumOf 3) (driveAt (made .outcome .controller) 3) (length (imageOf 3 (made .images))) ≡ Invalid)
+    × (isGood 2 (wrote .outcome .answer) ≡ true)
+unfolding p start then block config sectors made wrote lba pick part splice rows firstFrom firstBelow isSome someBelow sameBytes
     mediumOf isFloppy isIn rangesOf sizeFor fittedTo fieldsIn settingBy settingOf isValid labelSetting labelHolds emptyFrom put place laid layoutOf
     idBytes idIn idFor ownId withSector flagOf partnerOf isMoved isTaken trackBytes withTrack slotId slotData withData firstId
     takenBy whereBy whereOf holds slotUsed sectorIn sectorFrom sectorFound stateBy stateOf splits pairSplit slotMade slotsMade formatted soundFrom
@@ -80,8 +96,8 @@ unfolding p start then block sectors made wrote lba pick part splice rows firstF
     judged presentWith isUnknown blockWrong controlWrong withParams interleaveWrong pastEnd notSpared sizeIn bytesOf reachOf hitsOf inOrder judge
     addressed senseOf blankDrive driveAt sensed settingIn failed good unless plainByte plainFill fillOf madeAt driveFormatted pendingEnded formatDrive
     aloneTests formatTrack transferEnding transferred write initialized initializedBy initialize doFree doTrack doSectors asEffect doDisk carryOut
-    viewOf obey imageOf left onDrive execute loadedBy loaded fresh resetOf
-facts = (refl, refl, refl, refl)
+    viewOf obey imageOf left onDrive execute loadedBy loaded fresh resetOf isGood
+facts = (refl, refl, refl, refl, refl, refl, refl, refl, refl, refl)
 
 and-off : (x : Bool) → (x && false) ≡ false
 and-off true = refl
@@ -114,3 +130,30 @@ reads =
     let across : contentOf p (lba 15) (imageOf 2 (remade .images)) ≡ contentOf p (lba 15) (imageOf 2 (wrote .images)) =
     no-other-record (wrote .outcome .controller) (block 0x06 16 1) [] [] (wrote .images) 2 p (facts .1) (lba 15) (omega arith) (spared .1 _) in
     (first ∙ ap Bytes (given .0), second ∙ ap Bytes (given .1), other ∙ facts .3, across ∙ first ∙ ap Bytes (given .0))
+
+-- a Write is neither Format Drive nor Initialize
+other-command : (r : Answer) → (Is (OnDisk (TrackWork FormatDrive)) 2 (block 0x0A 15 2) r → ⊥) × (Is (Free Initialize) 2 (block 0x0A 15 2) r → ⊥)
+unfolding Is block blockOf rowFor
+other-command r = (
+  λ is. let command = is .2 in let clash : _≡_ {A = ℕ} 0 1 = cc in omega (arith, clash),
+  λ is. let command = is .2 in let clash : _≡_ {A = ℕ} 0 1 = cc in omega (arith, clash),
+)
+
+-- By the theorems: the Write leaves the label, the parameters in force, the bytes past the last track and the drive without
+-- parameters; and since its status is good, both sectors are done.
+stays :
+    (part 0 16 (imageOf 2 (wrote .images)) ≡ config ++ replicate 6 0)
+    × (driveAt (wrote .outcome .controller) 2 .config ≡ config)
+    × (part 4368 2 (imageOf 2 (wrote .images)) ≡ 0xEE ∷ 0xED ∷ [])
+    × (imageOf 3 (wrote .images) ≡ replicate 20 5)
+    × (wrote .outcome .answer .sectors ≡ countOf (blockOf (block 0x0A 15 2)))
+unfolding p wrote then LabelStays ParametersStay PastStays NoneWithoutParameters WrittenReads block blockOf rowFor
+stays =
+    let c = made .outcome .controller in
+    let save = block 0x0A 15 2 in (
+      label-stays c save sectors [] (made .images) 2 (other-command _ .0) ∙ facts .4,
+      parameters-stay c save sectors [] (made .images) 2 (other-command _ .1) .0 ∙ facts .6,
+      past-stays c save sectors [] (made .images) 2 .1 p (facts .0) 4368 2 (omega arith) ∙ facts .5,
+      none-without-parameters c save sectors [] (made .images) 3 (facts .8) ∙ facts .7,
+      written-reads c save sectors [] (made .images) p refl refl (facts .0) .1 (facts .9),
+    )

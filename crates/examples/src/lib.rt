@@ -1,0 +1,1 @@
+// Document 01's proved examples. Definitions and facts, no code.
