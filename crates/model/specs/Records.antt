@@ -50,20 +50,21 @@ onTracks p b given a AssignAlternate = oneTrack p a (b .address) || oneTrack p a
 onTracks p b given a FormatDrive = leb (trackOf p (b .address) .0) (trackOf p a .0)
 onTracks p b given a CheckTrack = false
 
--- By a command on tracks these, where it ends with good status; by Write the sectors done; by every other command none.
-unfoldable pub namedBy : Params → Block → (given : List ℕ) → Answer → Lba → Command → Bool
-namedBy p b given r a (OnDisk (SectorWork Write)) = leb (b .address .0) (a .0) && ltb (a .0) (b .address .0 + r .sectors)
-namedBy p b given r a (OnDisk (SectorWork Read)) = false
-namedBy p b given r a (OnDisk (TrackWork command)) = isGood (b .drive) r && onTracks p b given a command
-namedBy p b given r a (OnDisk (ArmWork command)) = false
-namedBy p b given r a (Free command) = false
-namedBy p b given r a Unknown = false
+-- On drive d, by a command on tracks these, where it ends with good status; by Write the sectors done; by every other command
+-- none. Each names addresses of the drive that its block names, and none of another.
+unfoldable pub namedBy : (d : ℕ) → Params → Block → (given : List ℕ) → Answer → Lba → Command → Bool
+namedBy d p b given r a (OnDisk (SectorWork Write)) = eqb (b .drive) d && (leb (b .address .0) (a .0) && ltb (a .0) (b .address .0 + r .sectors))
+namedBy d p b given r a (OnDisk (SectorWork Read)) = false
+namedBy d p b given r a (OnDisk (TrackWork command)) = eqb (b .drive) d && (isGood (b .drive) r && onTracks p b given a command)
+namedBy d p b given r a (OnDisk (ArmWork command)) = false
+namedBy d p b given r a (Free command) = false
+namedBy d p b given r a Unknown = false
 
--- On the drive that the block names; on every other drive none, and none by a block that is not six bytes.
+-- None by a block that is not six bytes.
 unfoldable pub named : (d : ℕ) → Params → (block given : List ℕ) → Answer → Lba → Bool
 named d p block given r a =
     let b = blockOf block in
-    eqb (length block) 6 && (eqb (b .drive) d && namedBy p b given r a (rowFor (b .opcode) .command))
+    eqb (length block) 6 && namedBy d p b given r a (rowFor (b .opcode) .command)
 
 -- ---- What it does not name reads as before. p: the parameters in force on drive d before the call.
 unfoldable pub NoOtherRecord : Type 0
@@ -111,7 +112,7 @@ LabelStays =
     → let r = execute c block given area images in
     (Is (OnDisk (TrackWork FormatDrive)) d block (r .outcome .answer) → ⊥) → part 0 16 (imageOf d (r .images)) ≡ part 0 16 (imageOf d images)
 
--- The parameters in force stay but by Initialize of the drive.
+-- The parameters in force stay but by Initialize of the drive (and by Reset, which loads them from the label).
 unfoldable pub ParametersStay : Type 0
 ParametersStay =
     (c : Controller) (block given area : List ℕ) (images : List (List ℕ)) (d : ℕ)

@@ -25,8 +25,8 @@ use Rattle.model.proofs.claim.Mirrors.{homeOf, Mirrors, KeepsLabel}
 use Rattle.model.proofs.claim.Finding.{home-ours, home-apart}
 
 -- two sectors have two slots
-slots-apart : (n f r s : ℕ) → r < n → s < n → (r ≡ s → ⊥) → slotOf n f r ≡ slotOf n f s → ⊥
-slots-apart n f r s hr hs ne e = ne (sym (sector-slot n f r hr) ∙ ap (sectorAt n f) e ∙ sector-slot n f s hs)
+other-slot : (n f r s : ℕ) → r < n → s < n → (r ≡ s → ⊥) → slotOf n f r ≡ slotOf n f s → ⊥
+other-slot n f r s hr hs ne e = ne (sym (sector-slot n f r hr) ∙ ap (sectorAt n f) e ∙ sector-slot n f s hs)
 
 -- track and sector give the address
 same-address : (p : Params) (a b : Lba) → trackOf p a .0 ≡ trackOf p b .0 → sectorOf p a ≡ sectorOf p b → a .0 ≡ b .0
@@ -98,7 +98,7 @@ module _ (p : Params) (w : Within p) (kind : Track → Kind) (inter : Track → 
               let f = inter (trackOf p a) in
               rw (← e)
               (stored-other (slotOf n f (sectorOf p b)) (slot-lt n f (sectorOf p b) (sector-in p w b))
-              (slots-apart n f (sectorOf p a) (sectorOf p b) (sector-in p w a) (sector-in p w b) (λ es. ne (same-address p a b e es))))
+              (other-slot n f (sectorOf p a) (sectorOf p b) (sector-in p w a) (sector-in p w b) (λ es. ne (same-address p a b e es))))
           by (no ne′) =
               ap (slotData p (slot b))
               (track-other p image fits (home a) bytes (home-in a ha) lb (home b) (home-in b hb)

@@ -52,8 +52,8 @@ module _ (low : ℕ) (s : Setting) where
 
 -- ---- Bytes put between them
 module _ (low : ℕ) (p : Params) (image : List ℕ) (fits : imageLength p ≤ length image) where
-  put-outside : (at : ℕ) (bytes : List ℕ) → low ≤ at → at + length bytes ≤ imageLength p → Outside low (Valid p) image (splice at bytes image)
-  put-outside at bytes l h = record {
+  splice-outside : (at : ℕ) (bytes : List ℕ) → low ≤ at → at + length bytes ≤ imageLength p → Outside low (Valid p) image (splice at bytes image)
+  splice-outside at bytes l h = record {
     len = length-splice at bytes image (omega arith);
     below = λ b size k. part-before b size at bytes image (omega arith) (omega arith);
     past = λ q is b size k.
@@ -63,13 +63,13 @@ module _ (low : ℕ) (p : Params) (image : List ℕ) (fits : imageLength p ≤ l
   }
 
   label-outside : low ≡ 0 → (config : List ℕ) → length config ≡ 10 → Outside low (Valid p) image (splice 0 (config ++ labelRest) image)
-  label-outside none config l = put-outside 0 (config ++ labelRest) (omega arith) (omega (arith, sixteen config l))
+  label-outside none config l = splice-outside 0 (config ++ labelRest) (omega arith) (omega (arith, sixteen config l))
 
   pub track-outside : low ≤ 16 → (t : Track) (bytes : List ℕ) → t .0 < trackCount p → length bytes ≤ trackSize p
       → Outside low (Valid p) image (withTrack p t bytes image)
   unfolding withTrack
   track-outside front t bytes h l =
-      put-outside (trackStart p t) bytes (omega arith) (omega (arith, cell-in (trackSize p) (t .0) (trackCount p) h))
+      splice-outside (trackStart p t) bytes (omega arith) (omega (arith, cell-in (trackSize p) (t .0) (trackCount p) h))
 
 -- a formatted track is no longer than a track, whatever the fill is cut to
 module _ (low : ℕ) (front : low ≤ 16) (p : Params) (map fill : List ℕ) (lm : length map ≡ p .sectors) (lf : length fill ≤ p .size) where

@@ -70,6 +70,10 @@ Reads b given p e =
     ((i : ℕ) → i < e .ending .answer .sectors → contentOf p (further (b .address) i) (e .image) ≡ Bytes (part (i * p .size) (p .size) given))
     × (isGood (b .drive) (e .ending .answer) ≡ true → e .ending .answer .sectors ≡ countOf b)
 
+-- what is not named on the drive of the block
+own-off : (n : ℕ) (x : Bool) → (eqb n n && x) ≡ false → x ≡ false
+own-off n x e = rw (eq-eqb n n refl) at e
+
 -- ---- A command whose checks have passed, with parameters p
 module _ (b : Block) (given : List ℕ) (area : ℕ) (entry : Drive) (buffer image : List ℕ)
     (passed : judge b (viewOf (mediumOf (b .drive)) entry (length image)) (length given) area ≡ Passed)
@@ -94,24 +98,24 @@ module _ (b : Block) (given : List ℕ) (area : ℕ) (entry : Drive) (buffer ima
   module _ (a : Lba) (ha : OnDrive p a) where
     -- not named, it reads as before
     abbrev Spared : Command → Effect → Type 0
-    Spared command e = namedBy p b given (e .ending .answer) a command ≡ false → contentOf p a (e .image) ≡ contentOf p a image
+    Spared command e = namedBy (b .drive) p b given (e .ending .answer) a command ≡ false → contentOf p a (e .image) ≡ contentOf p a image
 
     track-spares : (command : TrackCommand) → rowFor (b .opcode) .command ≡ OnDisk (TrackWork command)
         → Spared (OnDisk (TrackWork command)) (asEffect buffer (doTrack b p buffer given entry image command))
     unfolding asEffect doTrack namedBy onTracks
     track-spares FormatDrive is off =
-        format-drive-other p image good-image b buffer entry (on-track FormatDrive is) a ha (ten b given area entry buffer image passed p valid) off
+        format-drive-other p image good-image b buffer entry (on-track FormatDrive is) a ha (ten b given area entry buffer image passed p valid) (own-off (b .drive) _ off)
     track-spares CheckTrack is off = refl
-    track-spares FormatTrack is off = format-track-other p image good-image b buffer entry (on-track FormatTrack is) a ha off
-    track-spares FormatBadTrack is off = format-bad-track-other p image good-image b buffer entry (on-track FormatBadTrack is) a ha off
+    track-spares FormatTrack is off = format-track-other p image good-image b buffer entry (on-track FormatTrack is) a ha (own-off (b .drive) _ off)
+    track-spares FormatBadTrack is off = format-bad-track-other p image good-image b buffer entry (on-track FormatBadTrack is) a ha (own-off (b .drive) _ off)
     track-spares AssignAlternate is off =
-        assign-alternate-other p image good-image b buffer entry (on-track AssignAlternate is) a ha given off
+        assign-alternate-other p image good-image b buffer entry (on-track AssignAlternate is) a ha given (own-off (b .drive) _ off)
 
     sectors-spare : (command : SectorCommand) → rowFor (b .opcode) .command ≡ OnDisk (SectorWork command)
         → Spared (OnDisk (SectorWork command)) (doSectors b p given entry buffer image command)
     unfolding doSectors read transferred namedBy begun
     sectors-spare Read is off = ap (contentOf p a) (read-image (countOf b) (b .address) p (begun image))
-    sectors-spare Write is off = write-other p image good-image b given (to-write is) entry buffer a ha off
+    sectors-spare Write is off = write-other p image good-image b given (to-write is) entry buffer a ha (own-off (b .drive) _ off)
 
     free-spares : (command : FreeCommand) → Spared (Free command) (doFree b given entry buffer image command)
     unfolding doFree
@@ -144,7 +148,7 @@ module _ (b : Block) (given : List ℕ) (area : ℕ) (entry : Drive) (buffer ima
 module _ (b : Block) (given : List ℕ) (area : ℕ) (entry : Drive) (buffer image : List ℕ)
     (p : Params) (valid : settingIn (mediumOf (b .drive)) entry (length image) ≡ Valid p) where
   abbrev Done : Effect → Type 0
-  Done e = (a : Lba) → OnDrive p a → namedBy p b given (e .ending .answer) a (rowFor (b .opcode) .command) ≡ false
+  Done e = (a : Lba) → OnDrive p a → namedBy (b .drive) p b given (e .ending .answer) a (rowFor (b .opcode) .command) ≡ false
       → contentOf p a (e .image) ≡ contentOf p a image
 
   pub obey-spares : Done (obey b given area entry buffer image)
@@ -202,16 +206,16 @@ module _ (c : Controller) (block given area : List ℕ) (images : List (List ℕ
     Same r = contentOf p a (imageOf d (r .images)) ≡ contentOf p a (imageOf d images)
 
     on-its-drive : (own : Bool) → eqb (b .drive) d ≡ own
-        → (own && namedBy p b given (result .outcome .answer) a (rowFor (b .opcode) .command)) ≡ false → Same result
+        → namedBy d p b given (result .outcome .answer) a (rowFor (b .opcode) .command) ≡ false → Same result
     on-its-drive false e off = ap (contentOf p a) (other-image (b .drive) done c area images d (λ z. eqb-false _ _ e (sym z)))
     on-its-drive true e off =
         let z : b .drive ≡ d = eqb-true _ _ e in
         rw (← z)
         (ap (contentOf p a) its-image
-        ∙ obey-spares b given (length area) (driveAt c (b .drive)) (c .buffer) image p (rw (← z) at valid) a ha (rw its-answer at off))
+        ∙ obey-spares b given (length area) (driveAt c (b .drive)) (c .buffer) image p (rw (← z) at valid) a ha (rw (← z, its-answer) at off))
 
     by-length : (six : Bool) → eqb (length block) 6 ≡ six
-        → (six && (eqb (b .drive) d && namedBy p b given (execute c block given area images .outcome .answer) a (rowFor (b .opcode) .command))) ≡ false
+        → (six && namedBy d p b given (execute c block given area images .outcome .answer) a (rowFor (b .opcode) .command)) ≡ false
         → Same (execute c block given area images)
     by-length false e off = ap (λ (l : List (List ℕ)). contentOf p a (imageOf d l)) (not-six e)
     by-length true e off = rw (six-bytes e) (on-its-drive (eqb (b .drive) d) refl (rw (six-bytes e) at off))
