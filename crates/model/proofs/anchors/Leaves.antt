@@ -116,11 +116,11 @@ tracks-made =
       ∷ []
     )
 
--- ---- Read and Write: the last sector done is at the buffer's front, the rest of the buffer stays
+-- ---- Read and Write: the last sector done is at the buffer's front, the rest of the buffer stays; a byte too many is not looked at
 pub moved-bytes : List Line
 moved-bytes =
     all (
-      tried (sent (six 0x0A 0 0 31 3 0) (both 5 6 ++ replicate 256 7) (says 0 0 3 0 [])) clear (both 7 2)
+      tried (sent (six 0x0A 0 0 31 3 0) (both 5 6 ++ replicate 257 7) (says 0 0 3 0 [])) clear (both 7 2)
       ∷ tried (plain 0x08 31 1 (says 0 0 1 256 (replicate 256 5))) clear (both 5 2)
       ∷ tried (plain 0x08 31 2 (says 0 0 2 512 (both 5 6))) clear (both 6 2)
       ∷ []
