@@ -2,7 +2,9 @@
 //! side.
 //!
 //! `cargo run --offline --release --manifest-path rust/Cargo.toml --bin bench` prints a table of
-//! nanoseconds a call and of ratios.
+//! nanoseconds a call and of ratios. `bench count DISK ROW CALLS` prepares a disk and makes that many
+//! calls of the proved library, for `tests/instructions`, which has valgrind count them; `bench rows`
+//! lists disks and rows.
 
 use std::hint::black_box;
 use std::ops::Range;
@@ -321,7 +323,16 @@ fn measure(
     );
 }
 
-fn main() {
+/// A disk in use, as both engines left it.
+fn in_use(disk: &Disk, memory: &mut Memory) -> (plain::Controller, Proved) {
+    let mut plain = plain::Controller::fresh([&[]; 4]);
+    let mut proved = Proved::from_record(&plain);
+    begin(&mut plain, disk, memory);
+    begin(&mut proved, disk, memory);
+    (plain, proved)
+}
+
+fn table() {
     println!(
         "| disk | command | proved ns | plain ns | copy ns | fill ns | / plain | / copy | / fill |"
     );
@@ -329,12 +340,36 @@ fn main() {
     // all at the start: what is freed and taken again would lie elsewhere
     let mut memories = DISKS.each_ref().map(Memory::new);
     for (disk, memory) in DISKS.iter().zip(&mut memories) {
-        let mut plain = plain::Controller::fresh([&[]; 4]);
-        let mut proved = Proved::from_record(&plain);
-        begin(&mut plain, disk, memory);
-        begin(&mut proved, disk, memory);
+        let (mut plain, mut proved) = in_use(disk, memory);
         for &row in disk.rows {
             measure(&mut proved, &mut plain, disk, row, memory);
         }
+    }
+}
+
+fn rows() {
+    for disk in &DISKS {
+        for &row in disk.rows {
+            println!("{}\t{}", disk.name, title(row, disk));
+        }
+    }
+}
+
+fn count(name: &str, wanted: &str, calls: u32) {
+    let disk = DISKS.iter().find(|disk| disk.name == name).expect("a disk of `bench rows`");
+    let is_wanted = |row: &&Row| title(**row, disk) == wanted;
+    let row = disk.rows.iter().find(is_wanted).expect("a row of `bench rows`");
+    let mut memory = Memory::new(disk);
+    let (_, mut proved) = in_use(disk, &mut memory);
+    commands(&mut proved, disk, *row)(&mut memory, calls);
+}
+
+fn main() {
+    let words: Vec<String> = std::env::args().skip(1).collect();
+    match words.iter().map(String::as_str).collect::<Vec<_>>()[..] {
+        [] => table(),
+        ["rows"] => rows(),
+        ["count", disk, row, calls] => count(disk, row, calls.parse().expect("a number of calls")),
+        _ => panic!("bench [rows | count DISK ROW CALLS]"),
     }
 }
