@@ -32,7 +32,7 @@ typedef struct {
 } lanthewg_controller;
 
 /* Number 0: the command was taken, and status has 2 + 32 x drive after a failure, 32 x drive otherwise. Numbers 1 to 3 refuse
- * it: a block that is not six bytes, data given too short, data area too short; then nothing is changed. */
+ * it: a block that is not six bytes, data given too short, data area too short; then nothing is changed, and status is 0. */
 typedef struct {
     uint8_t number;
     uint8_t status;
@@ -40,6 +40,11 @@ typedef struct {
     uint16_t sectors; /* done */
     uint32_t bytes;   /* handed over, at the front of the data area */
 } lanthewg_answer;
+
+/* Whether the command was taken and ended well: number 0, and status without the error bit, whatever drive it names. */
+static inline bool lanthewg_is_good(lanthewg_answer answer) {
+    return answer.number == 0 && (answer.status & 0x02) == 0;
+}
 
 /* Makes a fresh controller, as it is after Reset: each drive's label, if it is valid there, comes into force. */
 void lanthewg_fresh(lanthewg_controller *controller,
