@@ -21,7 +21,7 @@
 #include <sys/stat.h>
 #include <unistd.h>
 
-enum { MAP = 256, LABEL = 16 };
+enum { MAP = 256 };
 
 typedef struct {
     const char *name;
@@ -117,7 +117,7 @@ static int put_changes(disk *d, size_t from, size_t to) {
 
 /* Writes back what a call changed: the tracks, and when these are on the disk the label. */
 static void flush(disk *d) {
-    size_t label = d->length < LABEL ? d->length : LABEL;
+    size_t label = d->length < LANTHEWG_LABEL_SIZE ? d->length : LANTHEWG_LABEL_SIZE;
     if (put_changes(d, label, d->length) && fsync(d->file) != 0) give_up(d->name);
     if (put_changes(d, 0, label) && fsync(d->file) != 0) give_up(d->name);
 }
@@ -153,7 +153,7 @@ static void compare(const uint8_t *map) {
 
 /* What drive 0 says before it is initialized. */
 static void ask(void) {
-    const uint8_t ready[6] = {0x00}, sense[6] = {0x03}, none[1] = {0};
+    const uint8_t ready[6] = {LANTHEWG_OPCODE_TEST_READY}, sense[6] = {LANTHEWG_OPCODE_REQUEST_SENSE}, none[1] = {0};
     call("Test Ready", ready, none, 0);
     must("Request Sense", sense, none, 0);
     printf("%-14s %02X %02X %02X %02X\n", "sense", area[0], area[1], area[2], area[3]);
@@ -161,9 +161,9 @@ static void ask(void) {
 
 /* The map as one sector of the hard disk, drive 0. */
 static void keep(const uint8_t *map) {
-    const uint8_t initialize[6] = {0x11}, three_tracks[10] = {0, 3, 1, 0, 1, 0, 0, 0, 0, 11};
-    const uint8_t format[6] = {0x04, 0, 0, 0, 1, 0};
-    const uint8_t write[6] = {0x0A, 0, 0, 31, 1, 0}, read[6] = {0x08, 0, 0, 31, 1, 0};
+    const uint8_t initialize[6] = {LANTHEWG_OPCODE_INITIALIZE}, three_tracks[10] = {0, 3, 1, 0, 1, 0, 0, 0, 0, 11};
+    const uint8_t format[6] = {LANTHEWG_OPCODE_FORMAT_DRIVE, 0, 0, 0, 1, 0};
+    const uint8_t write[6] = {LANTHEWG_OPCODE_WRITE, 0, 0, 31, 1, 0}, read[6] = {LANTHEWG_OPCODE_READ, 0, 0, 31, 1, 0};
     must("Initialize", initialize, three_tracks, sizeof three_tracks);
     must("Format Drive", format, map, 0);
     must("Write", write, map, MAP);
@@ -176,9 +176,9 @@ static void keep(const uint8_t *map) {
 /* The map that was read, as two sectors of the floppy, drive 2, which has two cylinders and two heads. */
 static void carry(const uint8_t *map) {
     enum { DRIVE = 2 << 5 };
-    const uint8_t initialize[6] = {0x11, DRIVE}, four_tracks[10] = {0, 2, 2, 1};
-    const uint8_t format[6] = {0x04, DRIVE, 0, 0, 1, 0};
-    const uint8_t write[6] = {0x0A, DRIVE, 0, 0, 2, 0}, read[6] = {0x08, DRIVE, 0, 0, 2, 0};
+    const uint8_t initialize[6] = {LANTHEWG_OPCODE_INITIALIZE, DRIVE}, four_tracks[10] = {0, 2, 2, 1};
+    const uint8_t format[6] = {LANTHEWG_OPCODE_FORMAT_DRIVE, DRIVE, 0, 0, 1, 0};
+    const uint8_t write[6] = {LANTHEWG_OPCODE_WRITE, DRIVE, 0, 0, 2, 0}, read[6] = {LANTHEWG_OPCODE_READ, DRIVE, 0, 0, 2, 0};
     uint8_t carried[MAP];
     memcpy(carried, area, sizeof carried);
     must("Initialize", initialize, four_tracks, sizeof four_tracks);
