@@ -6,8 +6,9 @@
  * - Where IMAGE0 or IMAGE2 is missing or empty, it is made. Where IMAGE1 or IMAGE3 is, the drive is absent.
  * - A file that is not empty is refused, each of the four, and nothing is done. With the word 'format' first, files are taken
  *   as they are, and what was on IMAGE0 and IMAGE2 is lost. A device is refused always, and one file for two drives.
- * - No file is made shorter. After each call the bytes that it changed are written back, and no others: the tracks first,
- *   then the label, which says that the tracks are there.
+ * - No file is made shorter. After each call the bytes that it changed are written back, and no others: from the end of the
+ *   image to its front, the label last of all. (A file system may change the order of writes between two fsync. On a card it
+ *   matters: see docs/FIRMWARE.md.)
  *
  * It ends with status 0 where all went well, 1 where a call or a file did not, 2 where it refuses its arguments. */
 #define _POSIX_C_SOURCE 200809L
@@ -100,22 +101,22 @@ static void load(int drive) {
     if (empty) put(d, 0, d->length); else get(d);
 }
 
-/* Writes back the bytes between two places that differ from the file's. */
+/* Writes back the bytes between two places that differ from the file's, from the last to the first. */
 static int put_changes(disk *d, size_t from, size_t to) {
     int changed = 0;
     while (from < to) {
-        size_t end = from;
-        while (end < to && d->image[end] != d->stored[end]) end++;
-        if (end == from) { from++; continue; }
-        put(d, from, end);
-        memcpy(d->stored + from, d->image + from, end - from);
+        size_t begin = to;
+        while (from < begin && d->image[begin - 1] != d->stored[begin - 1]) begin--;
+        if (begin == to) { to--; continue; }
+        put(d, begin, to);
+        memcpy(d->stored + begin, d->image + begin, to - begin);
         changed = 1;
-        from = end;
+        to = begin;
     }
     return changed;
 }
 
-/* Writes back what a call changed: the tracks, and when these are on the disk the label. */
+/* Writes back what a call changed: the tracks, and when these are on the disk the label (docs/FIRMWARE.md says why so). */
 static void flush(disk *d) {
     size_t label = d->length < LANTHEWG_LABEL_SIZE ? d->length : LANTHEWG_LABEL_SIZE;
     if (put_changes(d, label, d->length) && fsync(d->file) != 0) give_up(d->name);
