@@ -107,6 +107,9 @@ int main(void) {
     prepare(3, 1, 0, 0);
     must(LANTHEWG_OPCODE_FORMAT_TRACK, ONE_TRACK, 7);
     cut_everywhere("Format Track", 1);
+    prepare(3, 1, 0, 0);
+    must(LANTHEWG_OPCODE_FORMAT_BAD_TRACK, ONE_TRACK, 7);
+    cut_everywhere("Format Bad Track", 0);
     if (failed) return 1;
     puts("torn: a flush from the end to the front shows no other record, wherever it stops");
     return 0;

@@ -2,7 +2,7 @@
 //!
 //! **A refusal has status 0.** A call that is refused (number 1 to 3) did nothing, and its status is
 //! 0, as a good one's is: who forwards the status alone reports a good save that did not happen. Ask
-//! [`Answer::is_good`].
+//! [`Answer::is_good`]; an answer that nobody looks at is a warning.
 //!
 //! A [`Controller`] is lent with four disk images to each call, by drive: 0 and 1 are hard disks, 2
 //! and 3 floppies. An image under 16 bytes, so an empty slice too, is an absent drive. Every call is
@@ -40,22 +40,6 @@
 //! assert!(answer.is_good());
 //! assert_eq!((answer.number, answer.status), (0, 0x40));
 //! assert!(card.drives[2].pending);
-//! ```
-//!
-//! An answer that nobody looks at is a warning, here made an error:
-//!
-//! ```compile_fail
-//! #![deny(unused_must_use)]
-//! let mut card = lanthewg::Controller::fresh([&[]; 4]);
-//! card.reset([&[]; 4]);
-//! ```
-//!
-//! Only since nobody looks at it:
-//!
-//! ```
-//! #![deny(unused_must_use)]
-//! let mut card = lanthewg::Controller::fresh([&[]; 4]);
-//! assert!(card.reset([&[]; 4]).is_good());
 //! ```
 
 #![no_std]
@@ -210,7 +194,8 @@ impl Controller {
         }
     }
 
-    /// A command: its block, the data given with it, and the data area for what it hands over.
+    /// A command: its block, the data given with it, and the data area for what it hands over. Where
+    /// it is refused, nothing is changed and status is 0.
     #[inline]
     pub fn execute(
         &mut self,
