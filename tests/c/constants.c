@@ -132,14 +132,15 @@ static void sizes(void) {
 
 /* The largest image: Initialize takes its configuration with that length, and not with a byte less. The largest transfer. */
 static void largest(uint8_t drive, const uint8_t config[LANTHEWG_CONFIG_SIZE], size_t length, size_t sector) {
-    const uint8_t initialize[6] = {LANTHEWG_OPCODE_INITIALIZE, (uint8_t)(drive << 5)}, format[6] = {LANTHEWG_OPCODE_FORMAT_DRIVE, (uint8_t)(drive << 5), 0, 0, 1};
-    const uint8_t read[6] = {LANTHEWG_OPCODE_READ, (uint8_t)(drive << 5)}, write[6] = {LANTHEWG_OPCODE_WRITE, (uint8_t)(drive << 5)};
+    const uint8_t bits = (uint8_t)(drive << 5);
+    const uint8_t initialize[6] = {LANTHEWG_OPCODE_INITIALIZE, bits}, format[6] = {LANTHEWG_OPCODE_FORMAT_DRIVE, bits, 0, 0, 1};
+    const uint8_t read[6] = {LANTHEWG_OPCODE_READ, bits}, write[6] = {LANTHEWG_OPCODE_WRITE, bits};
     uint8_t *image = calloc(length, 1);
     memcpy(given, config, LANTHEWG_CONFIG_SIZE);
     lanthewg_answer a = on(image, length - 1, initialize, 6, sizeof given, 0);
     expect(!lanthewg_is_good(a) && card.drives[drive].sense[0] == LANTHEWG_SENSE_NOT_VALID, "a byte less than the largest image", drive);
     a = on(image, length, initialize, 6, sizeof given, 0);
-    expect(lanthewg_is_good(a) && a.status == drive << 5, "the largest image, and a good status with drive bits", drive);
+    expect(lanthewg_is_good(a) && a.status == bits, "the largest image, and a good status with drive bits", drive);
     a = on(image, length, format, 6, 0, 0);
     expect(lanthewg_is_good(a) && image[length - 1] != 0, "the largest image's last byte", drive);
     a = on(image, length, read, 6, 0, 256 * sector);

@@ -70,6 +70,8 @@ BEGIN {
 /^#/ { print ""; print substr($0, 3); next }
 {
     if ((getline answer < answers) <= 0) { print "tell: the program gave no answer to " left_of($0); exit 1 }
-    printf "  %-33s %-22s %s: %s\n", left_of($0), substr(answer, 1, 6) " " short(substr(answer, 7)), command_of(frame_of($0)), meaning(frame_of($0), answer)
+    frame = frame_of($0)
+    printf "  %-33s %-22s ", left_of($0), substr(answer, 1, 6) " " short(substr(answer, 7))
+    print command_of(frame) ": " meaning(frame, answer)
 }
 END { exit missing }
