@@ -1,88 +1,211 @@
-/* session IMAGE0 IMAGE1 IMAGE2 IMAGE3: initializes and formats the hard disk in IMAGE0, writes a map, and reads it back after
- * a Reset; then copies the map to a floppy in IMAGE2. The four files are read, worked on in memory, and written back. */
+/* session [format] IMAGE0 IMAGE1 IMAGE2 IMAGE3: an example that FORMATS TWO DISKS, IMAGE0 and IMAGE2.
+ *
+ * It initializes and formats a hard disk in IMAGE0, writes a map, and reads it back after a Reset; then it does the same with
+ * a floppy in IMAGE2, to which it copies the map. IMAGE1 and IMAGE3 are lent to the engine, and no command names them.
+ *
+ * - Where IMAGE0 or IMAGE2 is missing or empty, it is made. Where IMAGE1 or IMAGE3 is, the drive is absent.
+ * - A file that is not empty is refused, each of the four, and nothing is done. With the word 'format' first, files are taken
+ *   as they are, and what was on IMAGE0 and IMAGE2 is lost. A device is refused always, and one file for two drives.
+ * - No file is made shorter. After each call the bytes that it changed are written back, and no others: from the end of the
+ *   image to its front, the label last of all. (A file system may change the order of writes between two fsync. On a card it
+ *   matters: see docs/FIRMWARE.md.)
+ *
+ * It ends with status 0 where all went well, 1 where a call or a file did not, 2 where it refuses its arguments. */
+#define _POSIX_C_SOURCE 200809L
 #include "lanthewg.h"
 
+#include <errno.h>
+#include <fcntl.h>
 #include <stdio.h>
 #include <stdlib.h>
 #include <string.h>
+#include <sys/stat.h>
+#include <unistd.h>
 
-enum { MOST = 25360, MAP = 256 };
+enum { MAP = 256 };
 
-static uint8_t images[4][MOST], area[1024];
-static size_t lengths[4];
+typedef struct {
+    const char *name;
+    int file;        /* -1: there is none */
+    size_t length;
+    uint8_t *image;  /* as the engine has it */
+    uint8_t *stored; /* as the file has it */
+} disk;
+
+/* What is made where IMAGE0 or IMAGE2 has no bytes: a hard disk of three tracks, a floppy of four. */
+static const size_t made[4] = {25360, 0, 8720, 0};
+static disk disks[4];
+static uint8_t area[1024];
 static lanthewg_controller card;
 
-static size_t load(const char *name, uint8_t *image) {
-    FILE *file = fopen(name, "rb");
-    if (!file) return 0;
-    size_t length = fread(image, 1, MOST, file);
-    fclose(file);
-    return length;
+static void give_up(const char *name) {
+    perror(name);
+    exit(1);
 }
 
-static void save(const char *name, const uint8_t *image, size_t length) {
-    FILE *file = fopen(name, "wb");
-    if (!file || fwrite(image, 1, length, file) != length) { perror(name); exit(1); }
-    fclose(file);
+static void refuse(const char *name, const char *why) {
+    fprintf(stderr, "session: %s %s\n", name, why);
+    exit(2);
+}
+
+/* Refuses a file that has bytes, unless asked to take it; and a device always, since its size does not say what it holds. */
+static void judge(const char *name, int asked) {
+    struct stat found;
+    if (stat(name, &found) != 0) {
+        if (errno != ENOENT) give_up(name);
+        return;
+    }
+    if (!S_ISREG(found.st_mode)) refuse(name, "is not a plain file");
+    if (found.st_size != 0 && !asked) refuse(name, "is not empty: to lose what is on it, say 'format' first");
+}
+
+/* Opens a drive's file, for writing where the drive is named by commands. Refuses one that is another drive's too. */
+static void take(int drive) {
+    disk *d = &disks[drive];
+    struct stat found = {0}, other;
+    d->file = open(d->name, made[drive] != 0 ? O_RDWR | O_CREAT : O_RDONLY, 0666);
+    if (d->file < 0 && errno != ENOENT) give_up(d->name);
+    if (d->file >= 0 && fstat(d->file, &found) != 0) give_up(d->name);
+    d->length = (size_t)found.st_size;
+    for (int before = 0; before < drive && d->file >= 0; before++) {
+        if (disks[before].file >= 0 && fstat(disks[before].file, &other) == 0
+            && found.st_dev == other.st_dev && found.st_ino == other.st_ino) refuse(d->name, "is given for two drives");
+    }
+}
+
+static void put(const disk *d, size_t from, size_t to) {
+    while (from < to) {
+        ssize_t count = pwrite(d->file, d->image + from, to - from, (off_t)from);
+        if (count <= 0) give_up(d->name);
+        from += (size_t)count;
+    }
+}
+
+static void get(const disk *d) {
+    for (size_t from = 0; from < d->length;) {
+        ssize_t count = pread(d->file, d->stored + from, d->length - from, (off_t)from);
+        if (count <= 0) give_up(d->name);
+        from += (size_t)count;
+    }
+    memcpy(d->image, d->stored, d->length);
+}
+
+/* Reads a drive's file; where it has no bytes, makes it if there is something to make. */
+static void load(int drive) {
+    disk *d = &disks[drive];
+    int empty = d->length == 0;
+    if (empty) d->length = made[drive];
+    d->image = calloc(d->length + 1, 1); /* not null, where the length is 0 too */
+    d->stored = calloc(d->length + 1, 1);
+    if (!d->image || !d->stored) give_up(d->name);
+    if (empty) put(d, 0, d->length); else get(d);
+}
+
+/* Writes back the bytes between two places that differ from the file's, from the last to the first. */
+static int put_changes(disk *d, size_t from, size_t to) {
+    int changed = 0;
+    while (from < to) {
+        size_t begin = to;
+        while (from < begin && d->image[begin - 1] != d->stored[begin - 1]) begin--;
+        if (begin == to) { to--; continue; }
+        put(d, begin, to);
+        memcpy(d->stored + begin, d->image + begin, to - begin);
+        changed = 1;
+        to = begin;
+    }
+    return changed;
+}
+
+/* Writes back what a call changed: the tracks, and when these are on the disk the label (docs/FIRMWARE.md says why so). */
+static void flush(disk *d) {
+    size_t label = d->length < LANTHEWG_LABEL_SIZE ? d->length : LANTHEWG_LABEL_SIZE;
+    if (put_changes(d, label, d->length) && fsync(d->file) != 0) give_up(d->name);
+    if (put_changes(d, 0, label) && fsync(d->file) != 0) give_up(d->name);
 }
 
 static void show(const char *what, lanthewg_answer a) {
     printf("%-14s number %u status %02X sectors %u bytes %u\n", what, a.number, a.status, a.sectors, (unsigned)a.bytes);
 }
 
-static void call(const char *what, const uint8_t block[6], const uint8_t *given, size_t length) {
-    show(what, lanthewg_execute(&card, block, 6, given, length, area, sizeof area,
-                                images[0], lengths[0], images[1], lengths[1],
-                                images[2], lengths[2], images[3], lengths[3]));
+/* A command, which can change the image of the drive that it names and no other. */
+static lanthewg_answer call(const char *what, const uint8_t block[6], const uint8_t *given, size_t length) {
+    lanthewg_answer a = lanthewg_execute(&card, block, 6, given, length, area, sizeof area,
+                                         disks[0].image, disks[0].length, disks[1].image, disks[1].length,
+                                         disks[2].image, disks[2].length, disks[3].image, disks[3].length);
+    flush(&disks[block[1] >> 5 & 3]);
+    show(what, a);
+    return a;
+}
+
+/* A command that must end well. */
+static void must(const char *what, const uint8_t block[6], const uint8_t *given, size_t length) {
+    if (!lanthewg_is_good(call(what, block, given, length))) {
+        fprintf(stderr, "session: %s did not end well\n", what);
+        exit(1);
+    }
 }
 
 /* Whether the map was handed over. */
-static void compare(const char *what, const uint8_t *map) {
-    printf("%-14s %s\n", what, memcmp(area, map, MAP) == 0 ? "as written" : "DIFFERENT");
+static void compare(const uint8_t *map) {
+    int same = memcmp(area, map, MAP) == 0;
+    printf("%-14s %s\n", "map", same ? "as written" : "DIFFERENT");
+    if (!same) exit(1);
+}
+
+/* What drive 0 says before it is initialized. */
+static void ask(void) {
+    const uint8_t ready[6] = {LANTHEWG_OPCODE_TEST_READY}, sense[6] = {LANTHEWG_OPCODE_REQUEST_SENSE}, none[1] = {0};
+    call("Test Ready", ready, none, 0);
+    must("Request Sense", sense, none, 0);
+    printf("%-14s %02X %02X %02X %02X\n", "sense", area[0], area[1], area[2], area[3]);
 }
 
 /* The map as one sector of the hard disk, drive 0. */
 static void keep(const uint8_t *map) {
-    const uint8_t ready[6] = {0x00}, sense[6] = {0x03};
-    const uint8_t initialize[6] = {0x11}, three_tracks[10] = {0, 3, 1, 0, 1, 0, 0, 0, 0, 11};
-    const uint8_t format[6] = {0x04, 0, 0, 0, 1, 0};
-    const uint8_t write[6] = {0x0A, 0, 0, 31, 1, 0}, read[6] = {0x08, 0, 0, 31, 1, 0};
-    call("Test Ready", ready, map, 0);
-    call("Request Sense", sense, map, 0);
-    printf("%-14s %02X %02X %02X %02X\n", "sense", area[0], area[1], area[2], area[3]);
-    call("Initialize", initialize, three_tracks, sizeof three_tracks);
-    call("Format Drive", format, map, 0);
-    call("Write", write, map, MAP);
-    show("Reset", lanthewg_reset(&card, images[0], lengths[0], images[1], lengths[1],
-                                 images[2], lengths[2], images[3], lengths[3]));
-    call("Read", read, map, 0);
-    compare("map", map);
+    const uint8_t initialize[6] = {LANTHEWG_OPCODE_INITIALIZE}, three_tracks[10] = {0, 3, 1, 0, 1, 0, 0, 0, 0, 11};
+    const uint8_t format[6] = {LANTHEWG_OPCODE_FORMAT_DRIVE, 0, 0, 0, 1, 0};
+    const uint8_t write[6] = {LANTHEWG_OPCODE_WRITE, 0, 0, 31, 1, 0}, read[6] = {LANTHEWG_OPCODE_READ, 0, 0, 31, 1, 0};
+    must("Initialize", initialize, three_tracks, sizeof three_tracks);
+    must("Format Drive", format, map, 0);
+    must("Write", write, map, MAP);
+    show("Reset", lanthewg_reset(&card, disks[0].image, disks[0].length, disks[1].image, disks[1].length,
+                                 disks[2].image, disks[2].length, disks[3].image, disks[3].length));
+    must("Read", read, map, 0);
+    compare(map);
 }
 
 /* The map that was read, as two sectors of the floppy, drive 2, which has two cylinders and two heads. */
 static void carry(const uint8_t *map) {
     enum { DRIVE = 2 << 5 };
-    const uint8_t initialize[6] = {0x11, DRIVE}, four_tracks[10] = {0, 2, 2, 1};
-    const uint8_t format[6] = {0x04, DRIVE, 0, 0, 1, 0};
-    const uint8_t write[6] = {0x0A, DRIVE, 0, 0, 2, 0}, read[6] = {0x08, DRIVE, 0, 0, 2, 0};
+    const uint8_t initialize[6] = {LANTHEWG_OPCODE_INITIALIZE, DRIVE}, four_tracks[10] = {0, 2, 2, 1};
+    const uint8_t format[6] = {LANTHEWG_OPCODE_FORMAT_DRIVE, DRIVE, 0, 0, 1, 0};
+    const uint8_t write[6] = {LANTHEWG_OPCODE_WRITE, DRIVE, 0, 0, 2, 0}, read[6] = {LANTHEWG_OPCODE_READ, DRIVE, 0, 0, 2, 0};
     uint8_t carried[MAP];
     memcpy(carried, area, sizeof carried);
-    call("Initialize", initialize, four_tracks, sizeof four_tracks);
-    call("Format Drive", format, map, 0);
-    call("Write", write, carried, sizeof carried);
+    must("Initialize", initialize, four_tracks, sizeof four_tracks);
+    must("Format Drive", format, map, 0);
+    must("Write", write, carried, sizeof carried);
     memset(area, 0, sizeof area);
-    call("Read", read, map, 0);
-    compare("map", map);
+    must("Read", read, map, 0);
+    compare(map);
 }
 
-int main(int count, char **names) {
-    if (count != 5) { fprintf(stderr, "session IMAGE0 IMAGE1 IMAGE2 IMAGE3\n"); return 2; }
-    for (int drive = 0; drive < 4; drive++) lengths[drive] = load(names[1 + drive], images[drive]);
-    lanthewg_fresh(&card, images[0], lengths[0], images[1], lengths[1], images[2], lengths[2], images[3], lengths[3]);
+int main(int count, char **words) {
+    int asked = count == 6 && strcmp(words[1], "format") == 0;
+    if (count != 5 && !asked) {
+        fprintf(stderr, "session [format] IMAGE0 IMAGE1 IMAGE2 IMAGE3: formats IMAGE0 and IMAGE2 (see examples/session.c)\n");
+        return 2;
+    }
+    for (int drive = 0; drive < 4; drive++) disks[drive].name = words[1 + asked + drive];
+    for (int drive = 0; drive < 4; drive++) judge(disks[drive].name, asked);
+    for (int drive = 0; drive < 4; drive++) take(drive);
+    for (int drive = 0; drive < 4; drive++) load(drive);
+    lanthewg_fresh(&card, disks[0].image, disks[0].length, disks[1].image, disks[1].length,
+                   disks[2].image, disks[2].length, disks[3].image, disks[3].length);
     uint8_t map[MAP];
     for (int i = 0; i < MAP; i++) map[i] = (uint8_t)(255 - i);
+    ask();
     keep(map);
     carry(map);
-    for (int drive = 0; drive < 4; drive++) save(names[1 + drive], images[drive], lengths[drive]);
     return 0;
 }

@@ -1,4 +1,8 @@
-/* The disk engine of a fitting console's controller card, for firmware in C. Link libfirmware.a.
+/* The disk engine of a fitting console's controller card, for firmware in C. Link libfirmware.a; docs/FIRMWARE.md says what it
+ * needs.
+ *
+ * LOOK AT NUMBER BEFORE STATUS. A call that is refused (number 1 to 3) has status 0, as a good one has, and nothing was done.
+ * Firmware that forwards the status alone reports a good save that did not happen. lanthewg_is_good looks at both.
  *
  * Each call is lent four disk images, one for each drive: drives 0 and 1 are hard disks, drives 2 and 3 floppies, whatever
  * their images hold. An image under 16 bytes is an absent drive.
@@ -14,25 +18,90 @@
 #include <stddef.h>
 #include <stdint.h>
 
+#define LANTHEWG_VERSION "0.5.0"
+
 #ifdef __cplusplus
 extern "C" {
 #endif
 
+/* Byte 0 of a block. Byte 1 has 32 x drive. */
+enum {
+    LANTHEWG_OPCODE_TEST_READY = 0x00,
+    LANTHEWG_OPCODE_RECALIBRATE = 0x01,
+    LANTHEWG_OPCODE_REQUEST_SENSE = 0x03,
+    LANTHEWG_OPCODE_FORMAT_DRIVE = 0x04,
+    LANTHEWG_OPCODE_CHECK_TRACK = 0x05,
+    LANTHEWG_OPCODE_FORMAT_TRACK = 0x06,
+    LANTHEWG_OPCODE_FORMAT_BAD_TRACK = 0x07,
+    LANTHEWG_OPCODE_READ = 0x08,
+    LANTHEWG_OPCODE_WRITE = 0x0A,
+    LANTHEWG_OPCODE_SEEK = 0x0B,
+    LANTHEWG_OPCODE_ASSIGN_ALTERNATE = 0x0E,
+    LANTHEWG_OPCODE_WRITE_BUFFER = 0x0F,
+    LANTHEWG_OPCODE_READ_BUFFER = 0x10,
+    LANTHEWG_OPCODE_INITIALIZE = 0x11
+};
+
+/* The numbers of a refusal, in which status, message and counts are 0 and nothing is changed. */
+enum {
+    LANTHEWG_REFUSED_BLOCK = 1, /* the block is not six bytes */
+    LANTHEWG_REFUSED_GIVEN = 2, /* less data is given than the command takes */
+    LANTHEWG_REFUSED_AREA = 3   /* the data area is shorter than what the command hands over */
+};
+
+/* In the status: the command was taken and failed, and the drive's sense has the code. */
+enum { LANTHEWG_STATUS_ERROR = 0x02 };
+
+/* The codes of a drive's first sense byte. With LANTHEWG_SENSE_ADDRESS added, an address is in the other three. */
+enum {
+    LANTHEWG_SENSE_NONE = 0x00,
+    LANTHEWG_SENSE_ABSENT = 0x04,          /* there is no such drive */
+    LANTHEWG_SENSE_NO_PARAMETERS = 0x0A,   /* neither a label nor Initialize gave any */
+    LANTHEWG_SENSE_UNKNOWN_FLAG = 0x10,    /* the track's first ID has a flag above 3 */
+    LANTHEWG_SENSE_NO_ID = 0x12,           /* the track has no ID where its first must be */
+    LANTHEWG_SENSE_NO_SECTOR = 0x14,       /* no slot of the track holds the sector */
+    LANTHEWG_SENSE_OTHER_TRACK = 0x15,     /* the track's first ID is another track's */
+    LANTHEWG_SENSE_PENDING = 0x16,         /* Initialize's parameters wait for a Format Drive from track 0 */
+    LANTHEWG_SENSE_BAD_TRACK = 0x19,       /* the track is flagged as bad */
+    LANTHEWG_SENSE_OTHER_IDS = 0x1A,       /* Check Track: the IDs are not those of this interleave */
+    LANTHEWG_SENSE_TAKEN = 0x1C,           /* the track is in use as an alternate */
+    LANTHEWG_SENSE_PAIRED = 0x1D,          /* one of a pair of tracks would be freed or used twice */
+    LANTHEWG_SENSE_NO_PARTNER = 0x1E,      /* a moved track's alternate does not name it back */
+    LANTHEWG_SENSE_UNFIT_ALTERNATE = 0x1F, /* Assign Alternate: the alternate is moved or bad */
+    LANTHEWG_SENSE_UNKNOWN_COMMAND = 0x20,
+    LANTHEWG_SENSE_PAST_END = 0x21,        /* an address past the last track */
+    LANTHEWG_SENSE_NOT_VALID = 0x22,       /* a field of the block, an interleave, a configuration */
+    LANTHEWG_SENSE_ADDRESS = 0x80
+};
+
+/* In bytes. A transfer moves up to 256 sectors of up to 512, so that no command hands over or takes more than LARGEST_AREA. */
+enum {
+    LANTHEWG_BLOCK_SIZE = 6,
+    LANTHEWG_SENSE_SIZE = 4,      /* what Request Sense hands over */
+    LANTHEWG_CONFIG_SIZE = 10,    /* what Initialize takes */
+    LANTHEWG_ALTERNATE_SIZE = 3,  /* what Assign Alternate takes */
+    LANTHEWG_BUFFER_SIZE = 512,   /* what Write Buffer takes and Read Buffer hands over */
+    LANTHEWG_LARGEST_AREA = 131072,
+    LANTHEWG_LABEL_SIZE = 16,     /* at the front of an image; a shorter image is an absent drive */
+    LANTHEWG_LARGEST_HARD_DISK = 63365136,
+    LANTHEWG_LARGEST_FLOPPY = 1109776
+};
+
 /* What the card keeps of a drive. Its configuration is in force where it is known. */
 typedef struct {
-    uint8_t sense[4];
-    uint8_t config[10];
+    uint8_t sense[LANTHEWG_SENSE_SIZE];
+    uint8_t config[LANTHEWG_CONFIG_SIZE];
     bool known;
     bool pending;
 } lanthewg_drive;
 
 typedef struct {
-    uint8_t buffer[512];
+    uint8_t buffer[LANTHEWG_BUFFER_SIZE];
     lanthewg_drive drives[4];
 } lanthewg_controller;
 
 /* Number 0: the command was taken, and status has 2 + 32 x drive after a failure, 32 x drive otherwise. Numbers 1 to 3 refuse
- * it: a block that is not six bytes, data given too short, data area too short; then nothing is changed. */
+ * it (LANTHEWG_REFUSED_BLOCK and so on): then nothing is changed, and status is 0 too. */
 typedef struct {
     uint8_t number;
     uint8_t status;
@@ -40,6 +109,11 @@ typedef struct {
     uint16_t sectors; /* done */
     uint32_t bytes;   /* handed over, at the front of the data area */
 } lanthewg_answer;
+
+/* Whether the command was taken and ended well: number 0, and status without the error bit, whatever drive it names. */
+static inline bool lanthewg_is_good(lanthewg_answer answer) {
+    return answer.number == 0 && (answer.status & LANTHEWG_STATUS_ERROR) == 0;
+}
 
 /* Makes a fresh controller, as it is after Reset: each drive's label, if it is valid there, comes into force. */
 void lanthewg_fresh(lanthewg_controller *controller,

@@ -1,0 +1,83 @@
+//! The header's constants under the same names, without `LANTHEWG_` (a test holds them equal).
+
+/// The version of header, wrapper and engine.
+pub const VERSION: &str = "0.5.0";
+
+// Byte 0 of a block. Byte 1 has 32 × drive.
+pub const OPCODE_TEST_READY: u8 = 0x00;
+pub const OPCODE_RECALIBRATE: u8 = 0x01;
+pub const OPCODE_REQUEST_SENSE: u8 = 0x03;
+pub const OPCODE_FORMAT_DRIVE: u8 = 0x04;
+pub const OPCODE_CHECK_TRACK: u8 = 0x05;
+pub const OPCODE_FORMAT_TRACK: u8 = 0x06;
+pub const OPCODE_FORMAT_BAD_TRACK: u8 = 0x07;
+pub const OPCODE_READ: u8 = 0x08;
+pub const OPCODE_WRITE: u8 = 0x0A;
+pub const OPCODE_SEEK: u8 = 0x0B;
+pub const OPCODE_ASSIGN_ALTERNATE: u8 = 0x0E;
+pub const OPCODE_WRITE_BUFFER: u8 = 0x0F;
+pub const OPCODE_READ_BUFFER: u8 = 0x10;
+pub const OPCODE_INITIALIZE: u8 = 0x11;
+
+/// Number: the block is not six bytes.
+pub const REFUSED_BLOCK: u8 = 1;
+/// Number: less data is given than the command takes.
+pub const REFUSED_GIVEN: u8 = 2;
+/// Number: the data area is shorter than what the command hands over.
+pub const REFUSED_AREA: u8 = 3;
+
+/// In the status: the command was taken and failed, and the drive's sense has the code.
+pub const STATUS_ERROR: u8 = 0x02;
+
+// The codes of a drive's first sense byte.
+pub const SENSE_NONE: u8 = 0x00;
+/// There is no such drive.
+pub const SENSE_ABSENT: u8 = 0x04;
+/// Neither a label nor Initialize gave any.
+pub const SENSE_NO_PARAMETERS: u8 = 0x0A;
+/// The track's first ID has a flag above 3.
+pub const SENSE_UNKNOWN_FLAG: u8 = 0x10;
+/// The track has no ID where its first must be.
+pub const SENSE_NO_ID: u8 = 0x12;
+/// No slot of the track holds the sector.
+pub const SENSE_NO_SECTOR: u8 = 0x14;
+/// The track's first ID is another track's.
+pub const SENSE_OTHER_TRACK: u8 = 0x15;
+/// Initialize's parameters wait for a Format Drive from track 0.
+pub const SENSE_PENDING: u8 = 0x16;
+/// The track is flagged as bad.
+pub const SENSE_BAD_TRACK: u8 = 0x19;
+/// Check Track: the IDs are not those of this interleave.
+pub const SENSE_OTHER_IDS: u8 = 0x1A;
+/// The track is in use as an alternate.
+pub const SENSE_TAKEN: u8 = 0x1C;
+/// One of a pair of tracks would be freed or used twice.
+pub const SENSE_PAIRED: u8 = 0x1D;
+/// A moved track's alternate does not name it back.
+pub const SENSE_NO_PARTNER: u8 = 0x1E;
+/// Assign Alternate: the alternate is moved or bad.
+pub const SENSE_UNFIT_ALTERNATE: u8 = 0x1F;
+pub const SENSE_UNKNOWN_COMMAND: u8 = 0x20;
+/// An address past the last track.
+pub const SENSE_PAST_END: u8 = 0x21;
+/// A field of the block, an interleave, a configuration.
+pub const SENSE_NOT_VALID: u8 = 0x22;
+/// Added to a code: the other three sense bytes have an address.
+pub const SENSE_ADDRESS: u8 = 0x80;
+
+// In bytes.
+pub const BLOCK_SIZE: usize = 6;
+/// What Request Sense hands over.
+pub const SENSE_SIZE: usize = 4;
+/// What Initialize takes.
+pub const CONFIG_SIZE: usize = 10;
+/// What Assign Alternate takes.
+pub const ALTERNATE_SIZE: usize = 3;
+/// What Write Buffer takes and Read Buffer hands over.
+pub const BUFFER_SIZE: usize = 512;
+/// No command hands over or takes more: 256 sectors of 512.
+pub const LARGEST_AREA: usize = 131072;
+/// At the front of an image; a shorter image is an absent drive.
+pub const LABEL_SIZE: usize = 16;
+pub const LARGEST_HARD_DISK: usize = 63365136;
+pub const LARGEST_FLOPPY: usize = 1109776;

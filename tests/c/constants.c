@@ -1,0 +1,186 @@
+/* The header's constants are the engine's: each opcode is known and no other, each code arises where the header says, each size is
+ * the least that is taken. With them, what lanthewg_is_good says of answers that are good, failed and refused. */
+#include "lanthewg.h"
+
+#include <stdio.h>
+#include <stdlib.h>
+#include <string.h>
+
+enum { LENGTH = 25360, SLOT = 264, SECTORS = 32, MARK = 0, CYLINDER = 2, SECTOR = 4, FLAG = 5 };
+
+static lanthewg_controller card;
+static uint8_t disk[LENGTH], none[1], area[LANTHEWG_LARGEST_AREA], given[LANTHEWG_LARGEST_AREA];
+static int failed, checked;
+
+static void expect(int holds, const char *what, unsigned value) {
+    checked++;
+    if (!holds) { printf("constants: %s (%02X)\n", what, value); failed = 1; }
+}
+
+/* A command of drive 0, which is the image, or of drive 2, of which it is too; the others are absent. */
+static lanthewg_answer on(uint8_t *image, size_t length, const uint8_t *block, size_t size, size_t given_size, size_t area_size) {
+    int floppy = block[1] >> 5 == 2;
+    return lanthewg_execute(&card, block, size, given, given_size, area, area_size, floppy ? none : image, floppy ? 0 : length,
+                            none, 0, floppy ? image : none, floppy ? length : 0, none, 0);
+}
+
+/* A command of drive 0 with all the data and area that any takes. */
+static lanthewg_answer command(uint8_t opcode, uint8_t address, uint8_t extra) {
+    const uint8_t block[LANTHEWG_BLOCK_SIZE] = {opcode, 0, 0, address, extra, 0};
+    return on(disk, LENGTH, block, sizeof block, sizeof given, sizeof area);
+}
+
+/* It fails with this code, and with an address or without one. */
+static void fails(unsigned code, uint8_t opcode, uint8_t address, uint8_t extra) {
+    lanthewg_answer a = command(opcode, address, extra);
+    expect(a.number == 0 && a.status == LANTHEWG_STATUS_ERROR && !lanthewg_is_good(a), "a failure is not good", code);
+    int addressed = code == LANTHEWG_SENSE_PAST_END || (code >= 0x10 && code <= 0x15) || (code >= 0x19 && code <= 0x1F);
+    expect(card.drives[0].sense[0] == code + (addressed ? LANTHEWG_SENSE_ADDRESS : 0), "a code", code);
+}
+
+static void good(uint8_t opcode, uint8_t address, uint8_t extra) {
+    expect(lanthewg_is_good(command(opcode, address, extra)), "a command that ends well", opcode);
+}
+
+/* Initialize with these ten bytes. */
+static void configure(const uint8_t config[LANTHEWG_CONFIG_SIZE]) {
+    memcpy(given, config, LANTHEWG_CONFIG_SIZE);
+    good(LANTHEWG_OPCODE_INITIALIZE, 0, 0);
+}
+
+/* An absent drive's codes: 20h exactly for opcodes that the header does not name. */
+static void opcodes(void) {
+    static const uint8_t named[] = {
+        LANTHEWG_OPCODE_TEST_READY, LANTHEWG_OPCODE_RECALIBRATE, LANTHEWG_OPCODE_REQUEST_SENSE, LANTHEWG_OPCODE_FORMAT_DRIVE,
+        LANTHEWG_OPCODE_CHECK_TRACK, LANTHEWG_OPCODE_FORMAT_TRACK, LANTHEWG_OPCODE_FORMAT_BAD_TRACK, LANTHEWG_OPCODE_READ,
+        LANTHEWG_OPCODE_WRITE, LANTHEWG_OPCODE_SEEK, LANTHEWG_OPCODE_ASSIGN_ALTERNATE, LANTHEWG_OPCODE_WRITE_BUFFER,
+        LANTHEWG_OPCODE_READ_BUFFER, LANTHEWG_OPCODE_INITIALIZE};
+    for (unsigned opcode = 0; opcode < 256; opcode++) {
+        const uint8_t block[LANTHEWG_BLOCK_SIZE] = {(uint8_t)opcode};
+        on(none, 0, block, sizeof block, sizeof given, sizeof area);
+        unsigned code = card.drives[0].sense[0];
+        expect((code == LANTHEWG_SENSE_UNKNOWN_COMMAND) == !memchr(named, (int)opcode, sizeof named), "an opcode", opcode);
+        lanthewg_fresh(&card, none, 0, none, 0, none, 0, none, 0);
+    }
+    const uint8_t ready[LANTHEWG_BLOCK_SIZE] = {LANTHEWG_OPCODE_TEST_READY};
+    on(none, 0, ready, sizeof ready, 0, 0);
+    expect(card.drives[0].sense[0] == LANTHEWG_SENSE_ABSENT, "a code", LANTHEWG_SENSE_ABSENT);
+}
+
+/* Three tracks of 32 sectors: formatted with interleave 1, flagged, moved; each code of a disk that is not damaged. */
+static void codes(void) {
+    static const uint8_t three_tracks[LANTHEWG_CONFIG_SIZE] = {0, 3, 1, 0, 1, 0, 0, 0, 0, 11};
+    fails(LANTHEWG_SENSE_NO_PARAMETERS, LANTHEWG_OPCODE_TEST_READY, 0, 0);
+    configure(three_tracks);
+    good(LANTHEWG_OPCODE_TEST_READY, 0, 0);
+    good(LANTHEWG_OPCODE_RECALIBRATE, 0, 0);
+    fails(LANTHEWG_SENSE_PENDING, LANTHEWG_OPCODE_READ, 0, 1);
+    good(LANTHEWG_OPCODE_FORMAT_DRIVE, 0, 1);
+    good(LANTHEWG_OPCODE_SEEK, 95, 0);
+    fails(LANTHEWG_SENSE_PAST_END, LANTHEWG_OPCODE_SEEK, 96, 0);
+    fails(LANTHEWG_SENSE_NOT_VALID, LANTHEWG_OPCODE_CHECK_TRACK, 0, 0);
+    fails(LANTHEWG_SENSE_OTHER_IDS, LANTHEWG_OPCODE_CHECK_TRACK, 0, 2);
+    good(LANTHEWG_OPCODE_CHECK_TRACK, 0, 1);
+    expect(card.drives[0].sense[0] == LANTHEWG_SENSE_NONE, "a code", LANTHEWG_SENSE_NONE);
+    good(LANTHEWG_OPCODE_FORMAT_BAD_TRACK, 32, 1);
+    fails(LANTHEWG_SENSE_BAD_TRACK, LANTHEWG_OPCODE_WRITE, 32, 1);
+    memcpy(given, "\0\0\40", LANTHEWG_ALTERNATE_SIZE);
+    fails(LANTHEWG_SENSE_UNFIT_ALTERNATE, LANTHEWG_OPCODE_ASSIGN_ALTERNATE, 0, 1);
+    memcpy(given, "\0\0\100", LANTHEWG_ALTERNATE_SIZE);
+    good(LANTHEWG_OPCODE_ASSIGN_ALTERNATE, 32, 1);
+    fails(LANTHEWG_SENSE_TAKEN, LANTHEWG_OPCODE_READ, 64, 1);
+    fails(LANTHEWG_SENSE_PAIRED, LANTHEWG_OPCODE_FORMAT_TRACK, 32, 1);
+    good(LANTHEWG_OPCODE_WRITE, 32, 1);
+}
+
+/* A byte of an ID of the disk is damaged, which a Read of an address then meets; then it is put back. */
+static void damage(unsigned code, int slot, int byte, uint8_t value, uint8_t address) {
+    uint8_t *at = disk + LANTHEWG_LABEL_SIZE + slot * SLOT + byte, was = *at;
+    good(LANTHEWG_OPCODE_READ, address, 1);
+    *at = value;
+    fails(code, LANTHEWG_OPCODE_READ, address, 1);
+    *at = was;
+}
+
+/* Length and one less: with the first the command is not refused, with the second it is, with this number. */
+static void takes(const uint8_t block[6], size_t length, size_t size, unsigned number) {
+    for (size_t less = 0; less < 2; less++) {
+        size_t block_size = number == LANTHEWG_REFUSED_BLOCK ? size - less : LANTHEWG_BLOCK_SIZE;
+        size_t given_size = number == LANTHEWG_REFUSED_GIVEN ? size - less : sizeof given;
+        size_t area_size = number == LANTHEWG_REFUSED_AREA ? size - less : sizeof area;
+        lanthewg_answer a = on(disk, length, block, block_size, given_size, area_size);
+        expect(a.number == (less ? number : 0), "a size, and the number of what is shorter", block[0]);
+        expect(lanthewg_is_good(a) == !less, "a refusal is not good", block[0]);
+        expect(!less || (a.status == 0 && a.message == 0 && a.sectors == 0 && a.bytes == 0), "a refusal has status 0", block[0]);
+    }
+}
+
+static void sizes(void) {
+    const uint8_t sense[6] = {LANTHEWG_OPCODE_REQUEST_SENSE}, put[6] = {LANTHEWG_OPCODE_WRITE_BUFFER}, get[6] = {LANTHEWG_OPCODE_READ_BUFFER};
+    const uint8_t initialize[6] = {LANTHEWG_OPCODE_INITIALIZE}, assign[6] = {LANTHEWG_OPCODE_ASSIGN_ALTERNATE, 0, 0, 0, 1, 0};
+    static const uint8_t three_tracks[LANTHEWG_CONFIG_SIZE] = {0, 3, 1, 0, 1, 0, 0, 0, 0, 11};
+    takes(sense, LENGTH, LANTHEWG_BLOCK_SIZE, LANTHEWG_REFUSED_BLOCK);
+    takes(sense, LENGTH, LANTHEWG_SENSE_SIZE, LANTHEWG_REFUSED_AREA);
+    takes(put, LENGTH, LANTHEWG_BUFFER_SIZE, LANTHEWG_REFUSED_GIVEN);
+    takes(get, LENGTH, LANTHEWG_BUFFER_SIZE, LANTHEWG_REFUSED_AREA);
+    memcpy(given, three_tracks, sizeof three_tracks);
+    takes(initialize, LENGTH, LANTHEWG_CONFIG_SIZE, LANTHEWG_REFUSED_GIVEN);
+    good(LANTHEWG_OPCODE_FORMAT_DRIVE, 0, 1);
+    memcpy(given, "\0\0\100", LANTHEWG_ALTERNATE_SIZE);
+    takes(assign, LENGTH, LANTHEWG_ALTERNATE_SIZE, LANTHEWG_REFUSED_GIVEN);
+}
+
+/* The largest image: Initialize takes its configuration with that length, and not with a byte less. The largest transfer. */
+static void largest(uint8_t drive, const uint8_t config[LANTHEWG_CONFIG_SIZE], size_t length, size_t sector) {
+    const uint8_t bits = (uint8_t)(drive << 5);
+    const uint8_t initialize[6] = {LANTHEWG_OPCODE_INITIALIZE, bits}, format[6] = {LANTHEWG_OPCODE_FORMAT_DRIVE, bits, 0, 0, 1};
+    const uint8_t read[6] = {LANTHEWG_OPCODE_READ, bits}, write[6] = {LANTHEWG_OPCODE_WRITE, bits};
+    uint8_t *image = calloc(length, 1);
+    memcpy(given, config, LANTHEWG_CONFIG_SIZE);
+    lanthewg_answer a = on(image, length - 1, initialize, 6, sizeof given, 0);
+    expect(!lanthewg_is_good(a) && card.drives[drive].sense[0] == LANTHEWG_SENSE_NOT_VALID, "a byte less than the largest image", drive);
+    a = on(image, length, initialize, 6, sizeof given, 0);
+    expect(lanthewg_is_good(a) && a.status == bits, "the largest image, and a good status with drive bits", drive);
+    a = on(image, length, format, 6, 0, 0);
+    expect(lanthewg_is_good(a) && image[length - 1] != 0, "the largest image's last byte", drive);
+    a = on(image, length, read, 6, 0, 256 * sector);
+    expect(lanthewg_is_good(a) && a.sectors == 256 && a.bytes == 256 * sector, "256 sectors read", drive);
+    a = on(image, length, read, 6, 0, 256 * sector - 1);
+    expect(a.number == LANTHEWG_REFUSED_AREA && a.status == 0 && !lanthewg_is_good(a), "an area that is short by one", drive);
+    a = on(image, length, write, 6, 256 * sector, 0);
+    expect(lanthewg_is_good(a) && a.sectors == 256, "256 sectors written", drive);
+    a = on(image, length, write, 6, 256 * sector - 1, 0);
+    expect(a.number == LANTHEWG_REFUSED_GIVEN && a.status == 0 && !lanthewg_is_good(a), "data that is short by one", drive);
+    free(image);
+}
+
+/* An image that has a label has a drive. */
+static void labels(void) {
+    const uint8_t ready[6] = {LANTHEWG_OPCODE_TEST_READY};
+    on(disk, LANTHEWG_LABEL_SIZE - 1, ready, 6, 0, 0);
+    expect(card.drives[0].sense[0] == LANTHEWG_SENSE_ABSENT, "an image shorter than a label", 0);
+    on(disk, LANTHEWG_LABEL_SIZE, ready, 6, 0, 0);
+    expect(card.drives[0].sense[0] == LANTHEWG_SENSE_NO_PARAMETERS, "an image of a label alone", 0);
+}
+
+int main(void) {
+    static const uint8_t hard_disk[LANTHEWG_CONFIG_SIZE] = {4, 0, 7, 0, 2}, floppy[LANTHEWG_CONFIG_SIZE] = {0, 255, 2, 1};
+    lanthewg_fresh(&card, none, 0, none, 0, none, 0, none, 0);
+    opcodes();
+    codes();
+    damage(LANTHEWG_SENSE_NO_ID, 0, MARK, 0, 0);
+    damage(LANTHEWG_SENSE_OTHER_TRACK, 0, CYLINDER, 1, 0);
+    damage(LANTHEWG_SENSE_UNKNOWN_FLAG, 0, FLAG, 4, 0);
+    damage(LANTHEWG_SENSE_NO_SECTOR, 5, SECTOR, 99, 5);
+    damage(LANTHEWG_SENSE_NO_PARTNER, 2 * SECTORS, FLAG, 0, 32);
+    lanthewg_fresh(&card, none, 0, none, 0, none, 0, none, 0);
+    memset(disk, 0, sizeof disk);
+    sizes();
+    labels();
+    largest(0, hard_disk, LANTHEWG_LARGEST_HARD_DISK, 512);
+    largest(2, floppy, LANTHEWG_LARGEST_FLOPPY, 128);
+    expect(LANTHEWG_LARGEST_AREA == 256 * 512, "the largest area", 0);
+    if (failed) return 1;
+    printf("constants: as the engine has them (%d checks, version %s)\n", checked, LANTHEWG_VERSION);
+    return 0;
+}
