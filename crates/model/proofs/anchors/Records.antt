@@ -15,7 +15,7 @@ use Rattle.geometry.specs.declared.params.Params.{Params}
 use Rattle.geometry.specs.declared.config.Setting.the-variants.{Valid}
 use Rattle.geometry.specs.Medium.{mediumOf, isFloppy, isIn, rangesOf}
 use Rattle.geometry.specs.Config.{sizeFor, fittedTo, fieldsIn, settingBy, settingOf, isValid, labelSetting, labelHolds}
-use Rattle.interleave.specs.Layout.{emptyFrom, put, place, laid, layoutOf}
+use Rattle.interleave.specs.Layout.{emptyFrom, layAt, place, laid, layoutOf}
 use Rattle.track.specs.Id.{idBytes, idIn, idFor, ownId, withSector}
 use Rattle.track.specs.State.{flagOf, partnerOf, isMoved, isTaken}
 use Rattle.track.specs.Image.{trackBytes, withTrack, slotId, slotData, withData, firstId}
@@ -73,7 +73,7 @@ facts :
     × (wrote .outcome .answer .sectors ≡ 2)
     × (contentOf p (lba 17) (imageOf 2 (made .images)) ≡ Bytes (replicate 128 0xE5))
 unfolding p start then block sectors made wrote lba pick part splice rows firstFrom firstBelow isSome someBelow sameBytes
-    mediumOf isFloppy isIn rangesOf sizeFor fittedTo fieldsIn settingBy settingOf isValid labelSetting labelHolds emptyFrom put place laid layoutOf
+    mediumOf isFloppy isIn rangesOf sizeFor fittedTo fieldsIn settingBy settingOf isValid labelSetting labelHolds emptyFrom layAt place laid layoutOf
     idBytes idIn idFor ownId withSector flagOf partnerOf isMoved isTaken trackBytes withTrack slotId slotData withData firstId
     takenBy whereBy whereOf holds slotUsed sectorIn sectorFrom sectorFound stateBy stateOf splits pairSplit slotMade slotsMade formatted soundFrom
     begun ended writeSlot onward found writing contentIn contentOf blockOf countOf fromBuffer checkNumber isAmong rowFor

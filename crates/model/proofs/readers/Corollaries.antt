@@ -22,10 +22,11 @@ use Rattle.geometry.specs.declared.config.Setting.the-variants.{Valid, Invalid}
 use Rattle.geometry.specs.Params.{Within, imageLength, trackCount, addressCount, further}
 use Rattle.geometry.specs.Medium.{mediumOf, isIn, rangesOf}
 use Rattle.geometry.specs.Config.{fieldsIn, settingBy, settingOf, labelSetting, labelHolds}
-use Rattle.track.specs.Find.{Slot, holds}
+use Rattle.track.specs.declared.find.Sector.the-variants.{Slot}
+use Rattle.track.specs.Find.{holds}
 use Rattle.track.specs.Image.{trackBytes, slotId, slotData}
 use Rattle.sectors.specs.Transfer.{begun, found, writing}
-use Rattle.sectors.proofs.Founds.{found-first}
+use Rattle.sectors.proofs.Laws.{found-first}
 use Rattle.model.specs.declared.block.Block.{Block}
 use Rattle.model.specs.declared.table.Command.{Command}
 use Rattle.model.specs.declared.table.Command.the-variants.{Free, OnDisk}
