@@ -11,7 +11,8 @@ use Rattle.geometry.specs.declared.params.Track.{Track}
 use Rattle.geometry.specs.Params.{OnDrive, further, next}
 use Rattle.geometry.proofs.Addresses.{same-lba, further-next}
 use Rattle.track.specs.Image.{Fits, trackBytes, slotData}
-use Rattle.track.specs.Find.{Sector, Slot, Fault}
+use Rattle.track.specs.declared.find.Sector.{Sector}
+use Rattle.track.specs.declared.find.Sector.the-variants.{Slot, Fault}
 use Rattle.sectors.specs.Transfer.{Transfer, begun, ended, readSlot, writeSlot, onward, found, reading, writing}
 use Rattle.contents.specs.Content.{Missing, contentIn, contentOf}
 use Rattle.contents.proofs.Terms.{Given}

@@ -16,11 +16,12 @@ use Rattle.track.specs.declared.find.Where.{Where}
 use Rattle.track.specs.declared.find.Where.the-variants.{On, Off}
 use Rattle.track.specs.Id.{idIn, ownId}
 use Rattle.track.specs.Image.{trackBytes, slotId, slotData, firstId}
-use Rattle.track.specs.Find.{Slot, takenBy, whereBy, whereOf, slotUsed, sectorIn, sectorFrom, sectorFound}
-use Rattle.track.proofs.Finds.{taken-past, where-in, off-on, on-same}
+use Rattle.track.specs.declared.find.Sector.the-variants.{Slot}
+use Rattle.track.specs.Find.{takenBy, whereBy, whereOf, slotUsed, sectorIn, sectorFrom, sectorFound}
+use Rattle.track.proofs.Laws.{taken-past, where-in, off-on, on-same, where-has}
+use Rattle.sectors.proofs.Laws.{found-there}
 use Rattle.sectors.specs.Transfer.{found}
 use Rattle.contents.specs.Content.{Bytes, contentIn, contentOf}
-use Rattle.contents.proofs.Owners.{where-has, found-there}
 use Rattle.contents.proofs.Puts.{by-found}
 
 -- ---- tracks kept while others change, and apart from them: no track that changes is taken by one that is kept, before or after
@@ -54,7 +55,7 @@ module _ (p : Params) (kept : Track → Bool) (before after : List ℕ) (keeps :
       by : Dec (u .0 < trackCount p) → (b : Bool) → kept u ≡ b → takenBy p t u (firstId p u after) ≡ takenBy p t u (firstId p u before)
       by (no l) b e =
           let past = le-ltb (u .0) (trackCount p) (omega arith) in
-          sym (taken-past p t u (firstId p u after) past) ∙ taken-past p t u (firstId p u before) past
+          taken-past p t u (firstId p u after) past ∙ sym (taken-past p t u (firstId p u before) past)
       by (yes l) true e = ap (takenBy p t u) (first-kept u l e)
       by (yes l) false e = neither _ _ (keeps .none-after t u kt e) (keeps .none-before t u kt e)
 

@@ -15,15 +15,14 @@ use Rattle.interleave.proofs.Slots.{slotOf, slot-lt}
 use Rattle.track.specs.declared.state.State.{State}
 use Rattle.track.specs.declared.state.State.the-variants.{Sound, Bad, Moved, Taken}
 use Rattle.track.specs.Image.{Fits, trackBytes, slotData}
-use Rattle.track.specs.Find.{Slot, sectorFound}
+use Rattle.track.specs.declared.find.Sector.the-variants.{Slot}
+use Rattle.track.specs.Find.{sectorFound}
 use Rattle.formatter.specs.Format.{formatted}
-use Rattle.formatter.proofs.Formats.{length-formatted}
-use Rattle.formatter.proofs.Sounds.{sound-in}
-use Rattle.formatter.proofs.Formed.{format-forms, format-fills, found-sound, found-moved, found-bad, found-taken}
-use Rattle.track.proofs.Images.{track-same}
+use Rattle.formatter.proofs.Laws.{length-formatted, sound-in, format-forms, format-fills, found-sound, found-moved, found-bad, found-taken}
+use Rattle.track.proofs.Laws.{track-same}
 use Rattle.sectors.specs.Transfer.{found}
 use Rattle.contents.specs.Content.{Bytes, Missing, contentIn, contentOf}
-use Rattle.contents.proofs.Terms.{Makes, trackMade, pairMade, driveMade}
+use Rattle.contents.proofs.Terms.{ForTracks, trackMade, pairMade, driveMade}
 use Rattle.contents.proofs.Places.{content-fault}
 use Rattle.contents.proofs.Formats.{made-fits, made-other, label-apart}
 
@@ -78,7 +77,7 @@ module _ (p : Params) (w : Within p) (image : List ℕ) (g : ℕ) (a : Lba) (t :
 
 -- ---- the bytes of tracks made with a fill of D bytes
 module _ (p : Params) (map : List ℕ) (lm : length map ≡ p .sectors) where
-  whole : (fill : List ℕ) → length fill ≡ p .size → Makes p map fill
+  whole : (fill : List ℕ) → length fill ≡ p .size → ForTracks p map fill
   whole fill lf = record { slots = lm; most = omega arith }
 
   made-same : (fill : List ℕ) → length fill ≡ p .size → (image : List ℕ) → Fits p image → (t : Track) → t .0 < trackCount p → (state : State)

@@ -25,40 +25,13 @@ use Rattle.track.specs.Id.{idBytes, idIn, idFor}
 use Rattle.track.specs.Image.{Fits, trackBytes, withTrack, slotId, firstId}
 use Rattle.track.specs.Find.{takenBy}
 use Rattle.track.specs.Pair.{stateOf, splits, pairSplit}
-use Rattle.track.proofs.Ids.{id-back, sector-for}
-use Rattle.track.proofs.Finds.{taken-in}
-use Rattle.track.proofs.Images.{track-room}
-use Rattle.track.proofs.Pairs.{below-other}
-use Rattle.formatter.specs.Format.{slotMade, slotsMade, formatted, soundFrom}
-use Rattle.formatter.proofs.Formats.{length-slot, length-slots, slot-id}
+use Rattle.track.proofs.Laws.{id-back, sector-for, taken-in, track-room, below-other, state-taken, taken-made, taken-one, sound-taken, bad-taken}
+use Rattle.track.proofs.Laws.{moved-taken}
+use Rattle.formatter.specs.Format.{formatted, soundFrom}
+use Rattle.formatter.proofs.Laws.{formatted-most, formatted-least, formatted-front}
 use Rattle.contents.specs.Content.{contentOf}
-use Rattle.contents.proofs.Terms.{Makes, NotTaken, trackMade, pairMade, driveMade}
+use Rattle.contents.proofs.Terms.{ForTracks, NotTaken, trackMade, pairMade, driveMade}
 use Rattle.contents.proofs.Elsewhere.{Keeps, first-same, content-kept}
-use Rattle.contents.proofs.Takens.{state-taken, taken-made, taken-one, sound-taken, bad-taken, moved-taken}
-
--- ---- what a format writes, with a fill of at most D bytes: no more than a track, and slot 0 begins with its ID
-pub formatted-most : (p : Params) (map fill : List ℕ) → length map ≡ p .sectors → length fill ≤ p .size → (t : Track) (state : State)
-    → length (formatted p t state map fill) ≤ trackSize p
-unfolding formatted
-formatted-most p map fill lm lf t state =
-    let e : length map * (8 + length fill) ≡ p .sectors * (8 + length fill) = ap (λ (n : ℕ). n * (8 + length fill)) lm in
-    let le : 8 + length fill ≤ 8 + p .size = omega arith in
-    omega (arith, e, length-slots (idFor p t state 0) map fill, mul-le-mul-left (p .sectors) le)
-
-module _ (p : Params) (t : Track) (state : State) (map fill : List ℕ) (some-slot : 0 < length map) where
-  formatted-least : 8 ≤ length (formatted p t state map fill)
-  unfolding formatted
-  formatted-least =
-      omega (arith, length-slots (idFor p t state 0) map fill, cell-in (8 + length fill) 0 (length map) some-slot, zero-mul (8 + length fill))
-
-  formatted-front : part 0 8 (formatted p t state map fill) ≡ idBytes (idFor p t state (getD map 0 0))
-  unfolding formatted slotsMade
-  formatted-front =
-      let id = idFor p t state 0 in
-      let width = 8 + length fill in
-      ap (λ (i : ℕ). part i 8 (rows (slotMade id map fill) (length map))) (sym (zero-mul width))
-      ∙ row-front (slotMade id map fill) width (length map) 0 8 (length-slot id map fill) some-slot (omega arith)
-      ∙ slot-id id map fill 0 ∙ ap idBytes (sector-for p t state 0 (getD map 0 0))
 
 -- the front of a stretch that was replaced
 front-of : (at size : ℕ) (ys xs : List ℕ) → size ≤ length ys → at + length ys ≤ length xs → part (at + 0) size (splice at ys xs) ≡ part 0 size ys
@@ -82,7 +55,7 @@ kept-but : (t v : Track) → (v .0 ≡ t .0 → ⊥) → allBut t v ≡ true
 unfolding allBut
 kept-but t v ne = ap not (ne-eqb (v .0) (t .0) ne)
 
-module _ (p : Params) (map fill image : List ℕ) (f : Fits p image) (m : Makes p map fill) where
+module _ (p : Params) (map fill image : List ℕ) (f : Fits p image) (m : ForTracks p map fill) where
   some-slot : 0 < length map
   some-slot = omega (arith, f .within .sectors-some, m .slots)
 
@@ -162,7 +135,7 @@ two-changed A B v k = by (allBut A v) refl k
     by true e z = inr (but-changed B v z)
     by false e z = inl (but-changed A v e)
 
-module _ (p : Params) (map plain fill image : List ℕ) (f : Fits p image) (mp : Makes p map plain) (mf : Makes p map fill)
+module _ (p : Params) (map plain fill image : List ℕ) (f : Fits p image) (mp : ForTracks p map plain) (mf : ForTracks p map fill)
     (A B : Track) (ha : A .0 < trackCount p) (hb : B .0 < trackCount p) (ne : B .0 ≡ A .0 → ⊥) where
   abbrev half : List ℕ
   half = trackMade p A (Moved B) map plain image
@@ -254,7 +227,7 @@ swept-more p map n t before one after len other its r = record {
     by u l h (yes past) = r .first u (omega arith) (omega arith)
     by u l h (no not-past) = let e : u ≡ t = same-track u t (omega arith) in rw e (same ∙ its)
 
-module _ (p : Params) (map fill : List ℕ) (m : Makes p map fill) where
+module _ (p : Params) (map fill : List ℕ) (m : ForTracks p map fill) where
   sweeps : (n : ℕ) (t : Track) (image : List ℕ) → Fits p image → t .0 + n ≤ trackCount p → Swept p map n t image (soundFrom p map fill n t image)
   unfolding soundFrom
   sweeps zero t image f h = record { len = refl; kept = λ u l. refl; first = λ u l k. absurd (omega arith) }
@@ -264,7 +237,7 @@ module _ (p : Params) (map fill : List ℕ) (m : Makes p map fill) where
       (made-first p map fill image f m t ht Sound)
       (sweeps n (nextTrack t) _ (made-fits p map fill image f m t ht Sound) (omega arith))
 
-module _ (p : Params) (map fill label image : List ℕ) (f : Fits p image) (m : Makes p map fill) (sixteen : length label ≡ 16) (s : Track) (hs : s .0 ≤ trackCount p) where
+module _ (p : Params) (map fill label image : List ℕ) (f : Fits p image) (m : ForTracks p map fill) (sixteen : length label ≡ 16) (s : Track) (hs : s .0 ≤ trackCount p) where
   abbrev swept : List ℕ
   swept = soundFrom p map fill (trackCount p - s .0) s image
 

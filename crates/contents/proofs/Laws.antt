@@ -1,4 +1,5 @@
--- The laws meant for users, each proved in its own module. `Fits p image` is all that they ask of an image, so damaged ones are included.
+-- The laws meant for the crates above, each proved in its own module. `Fits p image` is all that they ask of an image, so damaged ones
+-- are included.
 use mathlib.Core.Path.{_≡_}
 use mathlib.Core.Bool.{false}
 use mathlib.Core.Logic.{_⊎_}
@@ -12,12 +13,14 @@ use Rattle.geometry.specs.declared.params.Track.{Track}
 use Rattle.geometry.specs.Params.{trackCount, trackOf, OnDrive, further}
 use Rattle.track.specs.declared.state.State.the-variants.{Sound, Bad}
 use Rattle.track.specs.Image.{Fits}
-use Rattle.track.specs.Find.{Slot}
+use Rattle.track.specs.declared.find.Sector.the-variants.{Slot}
 use Rattle.track.specs.Pair.{pairSplit}
 use Rattle.sectors.specs.Transfer.{begun, found, reading, writing}
 use Rattle.contents.specs.Content.{Bytes, contentOf, put}
-use Rattle.contents.proofs.Terms.{dataStart, bytesAt, putAll, Given, Makes, NotTaken, trackMade, pairMade, driveMade}
-use Rattle.contents.proofs.Owners
+-- the laws' words
+pub use Rattle.contents.proofs.Terms.{dataStart, Given, ForTracks, NotTaken, trackMade, pairMade, driveMade}
+unfoldable pub use Rattle.contents.proofs.Terms.{bytesAt, putAll}
+use Rattle.sectors.proofs.Laws as Sectors
 use Rattle.contents.proofs.Puts
 use Rattle.contents.proofs.Readings
 use Rattle.contents.proofs.Writings
@@ -25,7 +28,7 @@ use Rattle.contents.proofs.Formats
 
 -- Two addresses never share a slot.
 pub slots-apart : (p : Params) (a b : Lba) (image : List ℕ) (u : Track) (k : ℕ) → found p a image ≡ Slot u k → found p b image ≡ Slot u k → a ≡ b
-slots-apart = Owners.slots-apart
+slots-apart = Sectors.slots-apart
 
 module _ (p : Params) (image : List ℕ) (f : Fits p image) where
   -- What is read at an address has D bytes.
@@ -53,8 +56,8 @@ module _ (p : Params) (image : List ℕ) (f : Fits p image) where
       pub put-same : contentOf p a (put p a sector image) ≡ Bytes sector
       put-same = Puts.put-same p image f a ha sector ls u k e
 
-      pub put-outside : (i size : ℕ) → (dataStart p u k + p .size ≤ i) ⊎ (i + size ≤ dataStart p u k) → part i size (put p a sector image) ≡ part i size image
-      put-outside = Puts.put-outside p image f a ha u k e sector ls
+      pub put-beside : (i size : ℕ) → (dataStart p u k + p .size ≤ i) ⊎ (i + size ≤ dataStart p u k) → part i size (put p a sector image) ≡ part i size image
+      put-beside = Puts.put-beside p image f a ha u k e sector ls
 
     -- what was read before, put back, gives the image before
     pub put-back : (old : List ℕ) → contentOf p a image ≡ Bytes old → put p a old (put p a sector image) ≡ image
@@ -96,7 +99,7 @@ module _ (p : Params) (n : ℕ) (a : Lba) (image : List ℕ) where
       writing-elsewhere = Writings.writing-elsewhere p n a given image f g
 
 -- ---- Formats: addresses outside the tracks formatted read as before
-module _ (p : Params) (image : List ℕ) (f : Fits p image) (a : Lba) (ha : OnDrive p a) (map fill : List ℕ) (m : Makes p map fill) where
+module _ (p : Params) (image : List ℕ) (f : Fits p image) (a : Lba) (ha : OnDrive p a) (map fill : List ℕ) (m : ForTracks p map fill) where
   module _ (t : Track) (ht : t .0 < trackCount p) (free : NotTaken p t image) (out : trackOf p a .0 ≡ t .0 → ⊥) where
     pub format-track-elsewhere : contentOf p a (trackMade p t Sound map fill image) ≡ contentOf p a image
     format-track-elsewhere = Formats.format-track-elsewhere p map fill image f m t ht free a ha out
@@ -110,7 +113,7 @@ module _ (p : Params) (image : List ℕ) (f : Fits p image) (a : Lba) (ha : OnDr
   format-drive-elsewhere s hs whole label sixteen l = Formats.format-drive-elsewhere p map fill label image f m sixteen s hs whole a ha l
 
   -- A moved to B, B taken by A
-  pub assign-elsewhere : (plain : List ℕ) → Makes p map plain → (A B : Track) → A .0 < trackCount p → B .0 < trackCount p → (B .0 ≡ A .0 → ⊥)
+  pub assign-elsewhere : (plain : List ℕ) → ForTracks p map plain → (A B : Track) → A .0 < trackCount p → B .0 < trackCount p → (B .0 ≡ A .0 → ⊥)
       → NotTaken p A image → NotTaken p B image → (trackOf p a .0 ≡ A .0 → ⊥) → (trackOf p a .0 ≡ B .0 → ⊥)
       → contentOf p a (pairMade p A B map plain fill image) ≡ contentOf p a image
   assign-elsewhere plain mp A B hA hB ne freeA freeB outA outB =

@@ -1,5 +1,4 @@
 pub mod Terms
-pub mod Owners
 pub mod Places
 pub mod Puts
 pub mod PutAlls
@@ -8,7 +7,6 @@ pub mod Writings
 pub mod Alikes
 pub mod Swaps
 pub mod Elsewhere
-pub mod Takens
 pub mod Formats
 pub mod Fills
 pub mod Laws

@@ -14,8 +14,8 @@ use Rattle.geometry.specs.declared.params.Track.{Track}
 use Rattle.geometry.specs.Params.{trackCount, slotSize, trackSize, trackStart}
 use Rattle.geometry.proofs.Addresses.{same-track}
 use Rattle.track.specs.Image.{Fits, trackBytes, withTrack, slotData, withData}
-use Rattle.track.specs.Find.{Slot, Fault}
-use Rattle.track.proofs.Images.{track-room}
+use Rattle.track.specs.declared.find.Sector.the-variants.{Slot, Fault}
+use Rattle.track.proofs.Laws.{track-room}
 use Rattle.sectors.specs.Transfer.{found}
 use Rattle.contents.specs.Content.{Bytes, Missing, contentIn, contentOf, putIn, put}
 use Rattle.contents.proofs.Terms.{dataStart}

@@ -13,14 +13,14 @@ use Rattle.geometry.specs.declared.params.Track.{Track}
 use Rattle.geometry.specs.Params.{trackCount, trackOf, sectorOf, OnDrive}
 use Rattle.geometry.proofs.Addresses.{track-in}
 use Rattle.track.specs.Image.{Fits}
-use Rattle.track.specs.Find.{Sector, Slot, Fault}
-use Rattle.track.proofs.SameIds.{SameIds, found-same, data-keeps}
+use Rattle.track.specs.declared.find.Sector.{Sector}
+use Rattle.track.specs.declared.find.Sector.the-variants.{Slot, Fault}
+use Rattle.track.proofs.Laws.{SameIds, found-same, data-keeps}
 use Rattle.sectors.specs.Transfer.{found}
-use Rattle.sectors.proofs.Founds.{found-slot}
+use Rattle.sectors.proofs.Laws.{found-slot, slots-apart}
 use Rattle.contents.specs.Content.{Bytes, Missing, contentOf, putIn, put}
 use Rattle.contents.proofs.Terms.{dataStart}
 use Rattle.base.proofs.Splices.{splice-again, splice-back, splice-apart}
-use Rattle.contents.proofs.Owners.{slots-apart}
 use Rattle.contents.proofs.Places.{content-fault, put-fault, data-room, content-slot, put-slot, data-apart, part-beside}
 
 -- what follows from a code and from a slot, whichever is found
@@ -64,8 +64,8 @@ module _ (p : Params) (image : List ℕ) (f : Fits p image) (a : Lba) (ha : OnDr
     put-keeps = rw e (data-keeps p image u k sector (f .long) its-track its-number ls)
 
     -- bytes outside the slot's data stay
-    pub put-outside : (i size : ℕ) → (dataStart p u k + p .size ≤ i) ⊎ (i + size ≤ dataStart p u k) → part i size (put p a sector image) ≡ part i size image
-    put-outside i size beside = ap (part i size) put-splices ∙ part-beside (dataStart p u k) i size sector image (by beside) room-for
+    pub put-beside : (i size : ℕ) → (dataStart p u k + p .size ≤ i) ⊎ (i + size ≤ dataStart p u k) → part i size (put p a sector image) ≡ part i size image
+    put-beside i size beside = ap (part i size) put-splices ∙ part-beside (dataStart p u k) i size sector image (by beside) room-for
       where
         by : (dataStart p u k + p .size ≤ i) ⊎ (i + size ≤ dataStart p u k) → (dataStart p u k + length sector ≤ i) ⊎ (i + size ≤ dataStart p u k)
         by (inl h) = inl (omega arith)
@@ -121,7 +121,7 @@ module _ (p : Params) (image : List ℕ) (f : Fits p image) (a : Lba) (ha : OnDr
       (λ code e′. content-fault p b (put p a sector image) code (put-found b hb ∙ e′) ∙ sym (content-fault p b image code e′))
       (λ v j e′.
       its-content p (put p a sector image) put-fits b hb v j (put-found b hb ∙ e′)
-      ∙ ap Bytes (put-outside p image f a ha u k e sector ls (dataStart p v j) (p .size) (apart u v k j e e′))
+      ∙ ap Bytes (put-beside p image f a ha u k e sector ls (dataStart p v j) (p .size) (apart u v k j e e′))
       ∙ sym (its-content p image f b hb v j e′)))
     where
       apart : (u v : Track) (k j : ℕ) → found p a image ≡ Slot u k → found p b image ≡ Slot v j

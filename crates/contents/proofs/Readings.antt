@@ -10,11 +10,11 @@ use Rattle.geometry.specs.declared.params.Track.{Track}
 use Rattle.geometry.specs.Params.{further, next}
 use Rattle.geometry.proofs.Addresses.{same-lba, further-next}
 use Rattle.track.specs.Image.{trackBytes, slotData}
-use Rattle.track.specs.Find.{Slot}
+use Rattle.track.specs.declared.find.Sector.the-variants.{Slot}
 use Rattle.sectors.specs.Transfer.{Transfer, begun, ended, readSlot, found, reading}
-use Rattle.sectors.proofs.Onwards.{onward-has}
+use Rattle.sectors.proofs.Laws.{onward-has}
 use Rattle.contents.specs.Content.{Missing, contentIn, contentOf}
-use Rattle.contents.proofs.Terms.{Stands, stands, bytesOf, bytesAt}
+use Rattle.contents.proofs.Terms.{Stands, stands, readBytes, bytesAt}
 use Rattle.contents.proofs.Places.{content-fault}
 
 first-of : (a : Lba) → further a 0 ≡ a
@@ -33,8 +33,8 @@ pub record ReadsOf (p : Params) (n : ℕ) (a : Lba) (x y : Transfer) : Type 0 wh
 
 module _ (p : Params) where
   -- the sector read is the content
-  its-bytes : (a : Lba) (image : List ℕ) (u : Track) (k : ℕ) → found p a image ≡ Slot u k → bytesOf (contentOf p a image) ≡ slotData p k (trackBytes p u image)
-  unfolding contentOf contentIn bytesOf
+  its-bytes : (a : Lba) (image : List ℕ) (u : Track) (k : ℕ) → found p a image ≡ Slot u k → readBytes (contentOf p a image) ≡ slotData p k (trackBytes p u image)
+  unfolding contentOf contentIn readBytes
   its-bytes a image u k e = rw e refl
 
   read-fields : (x : Transfer) (u : Track) (k : ℕ)

@@ -11,7 +11,7 @@ use Rattle.geometry.specs.Params.{trackCount, slotSize, trackStart, addressCoun
 use Rattle.track.specs.declared.state.State.{State}
 use Rattle.track.specs.declared.state.State.the-variants.{Moved, Taken}
 use Rattle.track.specs.Image.{withTrack}
-use Rattle.track.specs.Find.{Slot}
+use Rattle.track.specs.declared.find.Sector.the-variants.{Slot}
 use Rattle.track.specs.Pair.{stateOf}
 use Rattle.formatter.specs.Format.{formatted, soundFrom}
 use Rattle.sectors.specs.Transfer.{found}
@@ -27,13 +27,13 @@ pub data Stands (p : Params) (a : Lba) (image : List ℕ) : Type 0 where
 
 -- ---- from one address on
 -- the bytes read at n addresses, one behind the other
-unfoldable pub bytesOf : Content → List ℕ
-bytesOf (Bytes sector) = sector
-bytesOf (Missing code) = []
+unfoldable pub readBytes : Content → List ℕ
+readBytes (Bytes sector) = sector
+readBytes (Missing code) = []
 
 unfoldable pub bytesAt : Params → (n : ℕ) → Lba → (image : List ℕ) → List ℕ
 bytesAt p zero a image = []
-bytesAt p (suc n) a image = bytesOf (contentOf p a image) ++ bytesAt p n (next a) image
+bytesAt p (suc n) a image = readBytes (contentOf p a image) ++ bytesAt p n (next a) image
 
 -- n sectors put, of D bytes each, one behind the other in `given`
 unfoldable pub putAll : Params → (n : ℕ) → Lba → (given image : List ℕ) → List ℕ
@@ -47,7 +47,7 @@ pub record Given (p : Params) (n : ℕ) (a : Lba) (given : List ℕ) : Type 0 wh
 
 -- ---- formats
 -- a map for whole tracks, and a fill of D bytes, or fewer where the buffer has fewer
-pub record Makes (p : Params) (map fill : List ℕ) : Type 0 where
+pub record ForTracks (p : Params) (map fill : List ℕ) : Type 0 where
   pub slots : length map ≡ p .sectors
   pub most : length fill ≤ p .size
 

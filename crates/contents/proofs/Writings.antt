@@ -13,10 +13,9 @@ use Rattle.geometry.specs.declared.params.Track.{Track}
 use Rattle.geometry.specs.Params.{OnDrive, further, next}
 use Rattle.geometry.proofs.Addresses.{same-lba, further-next}
 use Rattle.track.specs.Image.{Fits}
-use Rattle.track.specs.Find.{Slot, Fault}
+use Rattle.track.specs.declared.find.Sector.the-variants.{Slot, Fault}
 use Rattle.sectors.specs.Transfer.{Transfer, begun, ended, writeSlot, found, writing}
-use Rattle.sectors.proofs.Onwards.{onward-has}
-use Rattle.sectors.proofs.WriteLoops.{writing-counted}
+use Rattle.sectors.proofs.Laws.{onward-has, writing-counted}
 use Rattle.contents.specs.Content.{Bytes, contentOf, putIn, put}
 use Rattle.contents.proofs.Terms.{Stands, stands, putAll, Given}
 use Rattle.contents.proofs.Puts.{put-fits, put-found}

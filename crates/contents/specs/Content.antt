@@ -4,7 +4,8 @@ use mathlib.Core.List.{List}
 use Rattle.geometry.specs.declared.params.Params.{Params}
 use Rattle.geometry.specs.declared.params.Lba.{Lba}
 use Rattle.track.specs.Image.{trackBytes, withTrack, slotData, withData}
-use Rattle.track.specs.Find.{Sector, Slot, Fault}
+use Rattle.track.specs.declared.find.Sector.{Sector}
+use Rattle.track.specs.declared.find.Sector.the-variants.{Slot, Fault}
 use Rattle.sectors.specs.Transfer.{found}
 
 -- The D bytes of the slot that finding gives, or finding's code.

@@ -17,7 +17,7 @@ use Rattle.geometry.specs.declared.config.Setting.the-variants.{Valid, Invalid}
 use Rattle.geometry.specs.Params.{imageLength, trackCount, trackOf, cylinderOf, headOf, sectorOf, track}
 use Rattle.geometry.specs.Medium.{mediumOf, isFloppy, isIn, rangesOf}
 use Rattle.geometry.specs.Config.{sizeFor, fittedTo, fieldsIn, settingBy, settingOf, isValid}
-use Rattle.interleave.specs.Layout.{emptyFrom, put, place, laid, layoutOf}
+use Rattle.interleave.specs.Layout.{emptyFrom, layAt, place, laid, layoutOf}
 use Rattle.track.specs.declared.state.State.the-variants.{Moved, Taken}
 use Rattle.track.specs.Id.{idBytes, idIn, idFor, ownId, withSector}
 use Rattle.track.specs.State.{flagOf, partnerOf, isBad, isMoved, isTaken}
@@ -148,7 +148,7 @@ examples :
     -- (10) Drive 1, address 20h past the end: sense A1 20 00 20.
     × (asked .area ≡ 0xA1 ∷ 0x20 ∷ 0x00 ∷ 0x20 ∷ 0xFF ∷ 0xFF ∷ [])
 unfolding InSlot config lengthOf lengthFor one block four address ready on then begins ends track-made readFor eight moved formatFrom kinds sought asked
-    part splice rows firstFrom firstBelow isSome someBelow sameBytes pick mediumOf isFloppy isIn rangesOf sizeFor fittedTo fieldsIn settingBy settingOf emptyFrom put place laid layoutOf
+    part splice rows firstFrom firstBelow isSome someBelow sameBytes pick mediumOf isFloppy isIn rangesOf sizeFor fittedTo fieldsIn settingBy settingOf emptyFrom layAt place laid layoutOf
     flagOf partnerOf idBytes idIn idFor ownId trackBytes withTrack slotId firstId withSector slotMade slotsMade formatted
     stateBy stateOf oneBelow splits pairSplit blockOf countOf rowFor presentWith
     judge judged inOrder hitsOf isUnknown blockWrong controlWrong withParams interleaveWrong pastEnd notSpared isValid reachOf sizeIn bytesOf isAmong checkNumber

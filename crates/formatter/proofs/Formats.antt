@@ -1,12 +1,13 @@
 -- What a format writes: its length, each slot's ID and data.
-use mathlib.Core.Path.{_≡_, ap, _∙_}
+use mathlib.Core.Path.{_≡_, sym, ap, _∙_}
 use mathlib.Core.List.{List}
-use Prim.Native.Nat.{ℕ, _+_, _*_, _<_}
+use Prim.Native.Nat.{ℕ, _+_, _*_, _≤_, _<_}
 use native.Mathlib.Omega.{arith}
+use native.Mathlib.Nat.{mul-le-mul-left, zero-mul}
 use lib.ListN.{length, getD, length-append}
 use lib.Seq.{take-at, drop-at, take-all}
-use Rattle.base.specs.Part.{part}
-use Rattle.base.proofs.Parts.{length-rows, part-row, row-front}
+use Rattle.base.specs.Part.{part, rows}
+use Rattle.base.proofs.Parts.{length-rows, part-row, row-front, cell-in}
 use Rattle.geometry.specs.declared.params.Params.{Params}
 use Rattle.geometry.specs.declared.params.Track.{Track}
 use Rattle.geometry.specs.Params.{slotSize, trackSize}
@@ -14,7 +15,7 @@ use Rattle.track.specs.declared.id.Id.{Id}
 use Rattle.track.specs.declared.state.State.{State}
 use Rattle.track.specs.Id.{idBytes, idFor, withSector}
 use Rattle.track.specs.Image.{slotId, slotData}
-use Rattle.track.proofs.Ids.{id-length, sector-for}
+use Rattle.track.proofs.Laws.{id-length, sector-for}
 use Rattle.formatter.specs.Format.{slotMade, slotsMade, formatted}
 
 -- ---- slots made
@@ -55,3 +56,27 @@ module _ (p : Params) (t : Track) (state : State) (map fill : List ℕ) (lm : le
   data-formatted k h =
       part-row (slotMade (idFor p t state 0) map fill) (slotSize p) (length map) k 8 (p .size) width (omega arith) (omega arith)
       ∙ slot-fill (idFor p t state 0) map fill (p .size) k lf
+
+-- ---- what a format writes, with a fill of at most D bytes: no more than a track, and slot 0 begins with its ID
+pub formatted-most : (p : Params) (map fill : List ℕ) → length map ≡ p .sectors → length fill ≤ p .size → (t : Track) (state : State)
+    → length (formatted p t state map fill) ≤ trackSize p
+unfolding formatted
+formatted-most p map fill lm lf t state =
+    let e : length map * (8 + length fill) ≡ p .sectors * (8 + length fill) = ap (λ (n : ℕ). n * (8 + length fill)) lm in
+    let le : 8 + length fill ≤ 8 + p .size = omega arith in
+    omega (arith, e, length-slots (idFor p t state 0) map fill, mul-le-mul-left (p .sectors) le)
+
+module _ (p : Params) (t : Track) (state : State) (map fill : List ℕ) (some-slot : 0 < length map) where
+  pub formatted-least : 8 ≤ length (formatted p t state map fill)
+  unfolding formatted
+  formatted-least =
+      omega (arith, length-slots (idFor p t state 0) map fill, cell-in (8 + length fill) 0 (length map) some-slot, zero-mul (8 + length fill))
+
+  pub formatted-front : part 0 8 (formatted p t state map fill) ≡ idBytes (idFor p t state (getD map 0 0))
+  unfolding formatted slotsMade
+  formatted-front =
+      let id = idFor p t state 0 in
+      let width = 8 + length fill in
+      ap (λ (i : ℕ). part i 8 (rows (slotMade id map fill) (length map))) (sym (zero-mul width))
+      ∙ row-front (slotMade id map fill) width (length map) 0 8 (length-slot id map fill) some-slot (omega arith)
+      ∙ slot-id id map fill 0 ∙ ap idBytes (sector-for p t state 0 (getD map 0 0))

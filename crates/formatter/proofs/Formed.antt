@@ -27,10 +27,10 @@ use Rattle.track.specs.declared.find.Where.the-variants.{On, Off}
 use Rattle.track.specs.Id.{idBytes, idIn, idFor, withSector}
 use Rattle.track.specs.State.{flagOf, partnerOf}
 use Rattle.track.specs.Image.{trackBytes, slotId, slotData, firstId}
-use Rattle.track.specs.Find.{takenBy, whereBy, whereOf, holds, slotUsed, Slot, Fault, sectorIn, sectorFrom, sectorFound}
+use Rattle.track.specs.declared.find.Sector.the-variants.{Slot, Fault}
+use Rattle.track.specs.Find.{takenBy, whereBy, whereOf, holds, slotUsed, sectorIn, sectorFrom, sectorFound}
 use Rattle.track.specs.Pair.{stateBy, stateOf}
-use Rattle.track.proofs.Ids.{id-back, own-for, sector-for}
-use Rattle.track.proofs.Used.{used-holds, unused}
+use Rattle.track.proofs.Laws.{id-back, own-for, sector-for, used-holds, unused}
 use Rattle.formatter.specs.Format.{formatted}
 use Rattle.formatter.specs.Check.{idIs, idsAre, homeState, checkedOn, checkCode}
 use Rattle.formatter.proofs.Formats.{id-formatted, data-formatted}

@@ -26,9 +26,7 @@ use Rattle.track.specs.Id.{idBytes, idFor, withSector}
 use Rattle.track.specs.State.{partnerOf}
 use Rattle.track.specs.Image.{trackBytes, slotId}
 use Rattle.track.specs.Find.{whereOf}
-use Rattle.track.proofs.Ids.{id-length}
-use Rattle.track.proofs.Images.{track-lent}
-use Rattle.track.proofs.Finds.{id-lent, slot-end, place-more}
+use Rattle.track.proofs.Laws.{id-length, track-lent, id-lent, slot-end, place-more}
 use Rattle.formatter.specs.Number.{numberOf}
 use Rattle.formatter.specs.Check.{idIs, idsAre, homeState, checkedOn, checkCode}
 use Rattle.formatter.proofs.Numbers.{Low, low-part, same-number, Narrow, low-id, number-id, id-fits}

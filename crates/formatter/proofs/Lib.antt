@@ -4,3 +4,4 @@ pub mod Sounds
 pub mod Numbers
 pub mod IdChecks
 pub mod Formed
+pub mod Laws

@@ -8,11 +8,10 @@ use native.Mathlib.Nat.{add-zero}
 use lib.ListN.{length}
 use Rattle.geometry.specs.declared.params.Params.{Params}
 use Rattle.geometry.specs.declared.params.Track.{Track}
-use Rattle.geometry.specs.Params.{Within, trackCount, trackSize, imageLength, track, nextTrack}
-use Rattle.geometry.proofs.Sizes.{count-most}
+use Rattle.geometry.specs.Params.{trackCount, trackSize, imageLength, track, nextTrack}
 use Rattle.track.specs.declared.state.State.the-variants.{Sound}
 use Rattle.track.specs.Image.{trackBytes, withTrack}
-use Rattle.track.proofs.Images.{length-with-track, track-same, track-other}
+use Rattle.track.proofs.Laws.{length-with-track, track-same, track-other}
 use Rattle.formatter.specs.Format.{formatted, soundFrom}
 use Rattle.formatter.proofs.Formats.{length-formatted}
 
@@ -67,13 +66,6 @@ module _ (p : Params) (map fill : List ℕ) (lm : length map ≡ p .sectors) (lf
           let e : s .0 + n ≡ t .0 = omega arith in
           ap (λ (u : ℕ). trackBytes p t (withTrack p (track u) (formatted p (track u) Sound map fill) (soundFrom p map fill n s image))) e
           ∙ track-same p (soundFrom p map fill n s image) (fits-sound n (omega arith)) t (formatted p t Sound map fill) (omega arith) (long t)
-
--- the track after one of the drive has a number, and fewer are left from there
-pub next-in : (p : Params) (t : Track) → Within p → t .0 < trackCount p → t .0 < 4294967295
-next-in p t w h = omega (arith, count-most p w)
-
-pub next-less : (p : Params) (t u : Track) → t .0 < trackCount p → u ≡ nextTrack t → trackCount p - u .0 < trackCount p - t .0
-next-less p t u h e = rw e (omega arith)
 
 -- ---- the loop: what is left to do at track t gives what the whole was to give
 pub record Remade (p : Params) (map fill : List ℕ) (first : Track) (image₀ image : List ℕ) (t : Track) : Type 0 where

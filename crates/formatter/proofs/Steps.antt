@@ -18,7 +18,7 @@ use Rattle.track.specs.declared.id.Id.{Id}
 use Rattle.track.specs.declared.state.State.{State}
 use Rattle.track.specs.Id.{idBytes, idFor, withSector}
 use Rattle.track.specs.Image.{withTrack}
-use Rattle.track.proofs.Images.{track-lent, length-track}
+use Rattle.track.proofs.Laws.{track-lent, length-track}
 use Rattle.formatter.specs.Format.{slotMade, slotsMade, stepped, afterSteps, underWay, formatted}
 use Rattle.formatter.proofs.Formats.{length-slot, length-slots, length-formatted}
 

@@ -1,11 +1,12 @@
 -- Bounds on what the parameters give.
-use Prim.Native.Nat.{_+_, _*_, _/_, _≤_, _<_}
+use mathlib.Core.Path.{_≡_}
+use Prim.Native.Nat.{_+_, _-_, _*_, _/_, _≤_, _<_}
 use native.Mathlib.Nat.{mul-le-mul, div-lt-iff-lt-mul}
 use native.Mathlib.Omega.{arith}
 use Rattle.base.proofs.Parts.{cell-in}
 use Rattle.geometry.specs.declared.params.Params.{Params}
 use Rattle.geometry.specs.declared.params.Track.{Track}
-use Rattle.geometry.specs.Params.{Within, trackCount, trackSize}
+use Rattle.geometry.specs.Params.{Within, trackCount, trackSize, nextTrack}
 
 module _ (p : Params) (w : Within p) where
   pub count-most : trackCount p ≤ 7168
@@ -31,3 +32,10 @@ module _ (p : Params) (w : Within p) where
 
   pub cylinder-below : (t : Track) → t .0 < trackCount p → t .0 / p .heads < p .cylinders
   cylinder-below t h = div-lt-iff-lt-mul (w .heads-some) .1 h
+
+-- the track after one of the drive has a number, and fewer are left from there
+pub next-in : (p : Params) (t : Track) → Within p → t .0 < trackCount p → t .0 < 4294967295
+next-in p t w h = omega (arith, count-most p w)
+
+pub next-less : (p : Params) (t u : Track) → t .0 < trackCount p → u ≡ nextTrack t → trackCount p - u .0 < trackCount p - t .0
+next-less p t u h e = rw e (omega arith)

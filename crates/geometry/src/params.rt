@@ -1,6 +1,6 @@
 // Addresses and tracks, and what a drive's parameters say of them.
 ghost use mathlib.Core.Path.{_≡_};
-ghost use Prim.Native.Nat.{_+_, _/_, _%_, _≤_, _<_};
+ghost use Prim.Native.Nat.{_+_, _*_, _/_, _%_, _≤_, _<_};
 ghost use lib.Dec.{ltb, eqb};
 ghost use Rattle.geometry.specs.Params.{Within, trackCount, lastAddress, slotSize, trackSize, imageLength, trackStart, trackOf, sectorOf, cylinderOf, headOf, lbaOf, further, track, nextTrack};
 
@@ -61,10 +61,18 @@ impl Lba {
 }
 
 impl Track {
-    pub fn numbered(k: u32) -> Track
-        ensures { λ r. ⌜ r ≡ track k ⌝ }
+    // From two bytes, high byte first.
+    pub fn of_bytes(high: u8, low: u8) -> Track
+        ensures { λ r. ⌜ r ≡ track (high * 256 + low) ⌝ }
     {
-        Track(k)
+        Track((high as u32) * 256 + (low as u32))
+    }
+
+    // Track 0: the drive's first, and what an ID names where there is no partner.
+    pub fn first() -> Track
+        ensures { λ r. ⌜ r ≡ track 0 ⌝ }
+    {
+        Track(0)
     }
 
     pub fn next(self) -> Track

@@ -12,7 +12,7 @@ use lib.Seq.{getD-set-same, getD-set-other, set-append-left}
 use lib.Dec.{eqb}
 use borrow.Author.Tests.{eq-eqb, ne-eqb}
 use Rattle.base.specs.Pick.{pick}
-use Rattle.interleave.specs.Layout.{emptyFrom, Laid, put, place, laid, layoutOf}
+use Rattle.interleave.specs.Layout.{emptyFrom, Laid, layAt, place, laid, layoutOf}
 
 -- the next slot, upward and round
 round-up : (p n : ℕ) → p + 1 < n → (p + 1) % n ≡ p + 1
@@ -151,7 +151,7 @@ pub record Good (n k : ℕ) (l : Laid) : Type 0 where
   -- and no other
   pub one : (i j : ℕ) → i < n → j < n → getD (l .map) i 0 ≡ getD (l .map) j 0 → getD (l .map) i 0 < n → i ≡ j
 
--- a sector put in an empty slot
+-- a sector laid in an empty slot
 module _ (n k s : ℕ) (m : List ℕ) (q z : ℕ) (sn : s < n) (good : Good n k (record { map = m; last = z })) (qn : q < n) (free : getD m q 0 ≡ n) (new : s ≡ suc k) where
   there : getD (set m q s) q 0 ≡ s
   there = getD-set-same m q s 0 (subst (λ (x : ℕ). q < x) (sym (good .len)) qn)
@@ -159,15 +159,15 @@ module _ (n k s : ℕ) (m : List ℕ) (q z : ℕ) (sn : s < n) (good : Good n k 
   elsewhere : (j : ℕ) → (j ≡ q → ⊥) → getD (set m q s) j 0 ≡ getD m j 0
   elsewhere j ne = getD-set-other m q j s 0 ne
 
-  put-low : (j : ℕ) → j < n → (getD (set m q s) j 0 ≡ n) ⊎ (getD (set m q s) j 0 ≤ s)
-  put-low j jn =
+  lay-low : (j : ℕ) → j < n → (getD (set m q s) j 0 ≡ n) ⊎ (getD (set m q s) j 0 ≤ s)
+  lay-low j jn =
       elim (ℕ-discrete j q) [
         | yes e ↦ inr (rw e (omega (arith, there)))
         | no ne ↦ rw (elsewhere j ne) (⊎-elim (λ e. inl e) (λ (l : getD m j 0 ≤ k). inr (omega arith)) (good .low j jn))
       ]
 
-  put-has : (t : ℕ) → t ≤ s → (j : ℕ) × (j < n) × (getD (set m q s) j 0 ≡ t)
-  put-has t h =
+  lay-has : (t : ℕ) → t ≤ s → (j : ℕ) × (j < n) × (getD (set m q s) j 0 ≡ t)
+  lay-has t h =
       elim (ℕ-discrete t s) [
         | yes e ↦ (q, qn, there ∙ sym e)
         | no ne ↦
@@ -175,38 +175,38 @@ module _ (n k s : ℕ) (m : List ℕ) (q z : ℕ) (sn : s < n) (good : Good n k 
             (r .0, r .1, elsewhere (r .0) (λ e. absurd (let x : getD m (r .0) 0 ≡ n = ap (λ (y : ℕ). getD m y 0) e ∙ free in omega arith)) ∙ r .2)
       ]
 
-  put-only : (j : ℕ) → j < n → (j ≡ q → ⊥) → getD (set m q s) j 0 ≡ s → ⊥
-  put-only j jn ne e =
+  lay-only : (j : ℕ) → j < n → (j ≡ q → ⊥) → getD (set m q s) j 0 ≡ s → ⊥
+  lay-only j jn ne e =
       let x : getD m j 0 ≡ s = sym (elsewhere j ne) ∙ e in
       ⊎-elim (λ (y : getD m j 0 ≡ n). omega arith) (λ (y : getD m j 0 ≤ k). omega arith) (good .low j jn)
 
-  put-one : (i j : ℕ) → i < n → j < n → getD (set m q s) i 0 ≡ getD (set m q s) j 0 → getD (set m q s) i 0 < n → i ≡ j
-  put-one i j hi hj e l =
+  lay-one : (i j : ℕ) → i < n → j < n → getD (set m q s) i 0 ≡ getD (set m q s) j 0 → getD (set m q s) i 0 < n → i ≡ j
+  lay-one i j hi hj e l =
       elim (ℕ-discrete i q) [
         | yes a ↦ elim (ℕ-discrete j q) [
           | yes b ↦ a ∙ sym b
-          | no b ↦ absurd (put-only j hj b (sym e ∙ ap (λ (y : ℕ). getD (set m q s) y 0) a ∙ there))
+          | no b ↦ absurd (lay-only j hj b (sym e ∙ ap (λ (y : ℕ). getD (set m q s) y 0) a ∙ there))
         ]
         | no a ↦ elim (ℕ-discrete j q) [
-          | yes b ↦ absurd (put-only i hi a (e ∙ ap (λ (y : ℕ). getD (set m q s) y 0) b ∙ there))
+          | yes b ↦ absurd (lay-only i hi a (e ∙ ap (λ (y : ℕ). getD (set m q s) y 0) b ∙ there))
           | no b ↦ good .one i j hi hj (sym (elsewhere i a) ∙ e ∙ elsewhere j b) (subst (λ (y : ℕ). y < n) (elsewhere i a) l)
         ]
       ]
 
-  put-good : Good n s (put s m q)
-  unfolding put
-  put-good = record {
+  lay-good : Good n s (layAt s m q)
+  unfolding layAt
+  lay-good = record {
     len = length-set m q s ∙ good .len;
     room = let c = count-set n s m q (omega (arith, good .len)) free (λ e. absurd (omega arith)) in omega (arith, good .room);
     last-in = qn;
-    low = put-low;
-    has = put-has;
-    one = put-one;
+    low = lay-low;
+    has = lay-has;
+    one = lay-one;
   }
 
 -- sector 0 alone
 good-first : (n f : ℕ) → 0 < n → Good n 0 (laid n f 0)
-unfolding laid put
+unfolding laid layAt
 good-first n f h =
     let in-range : 0 < length (replicate n n) = omega (arith, length-replicate n n) in
     let there : getD (set (replicate n n) 0 0) 0 0 ≡ 0 = getD-set-same (replicate n n) 0 0 0 in-range in
@@ -241,7 +241,7 @@ good-next : (n f k : ℕ) (l : Laid) → Good n k l → suc k < n → Good n (su
 unfolding place
 good-next n f k l good h =
     let r = next-free n f k l good h in
-    put-good n k (suc k) (l .map) _ (l .last) h good (r .0) (r .1) refl
+    lay-good n k (suc k) (l .map) _ (l .last) h good (r .0) (r .1) refl
 
 pub good-laid : (n f k : ℕ) → k < n → Good n k (laid n f k)
 unfolding laid
@@ -250,7 +250,7 @@ good-laid n f (suc k) h = good-next n f k (laid n f k) (good-laid n f k (omega a
 
 -- a slot that is taken stays so
 kept : (n f k j : ℕ) → suc k < n → (getD (laid n f k .map) j 0 ≡ n → ⊥) → getD (laid n f (suc k) .map) j 0 ≡ getD (laid n f k .map) j 0
-unfolding laid place put
+unfolding laid place layAt
 kept n f k j h taken =
     let r = next-free n f k (laid n f k) (good-laid n f k (omega arith)) h in
     getD-set-other (laid n f k .map) _ j (suc k) 0 (λ e. taken (ap (λ (y : ℕ). getD (laid n f k .map) y 0) e ∙ r .1))
@@ -263,11 +263,11 @@ stays n f j s k sn e (suc i) h =
     rw add-suc (kept n f (k + i) j (omega arith) (λ z. absurd (omega arith)) ∙ b)
 
 zero-there : (n f : ℕ) → 0 < n → getD (laid n f 0 .map) 0 0 ≡ 0
-unfolding laid put
+unfolding laid layAt
 zero-there n f h = getD-set-same (replicate n n) 0 0 0 (omega (arith, length-replicate n n))
 
 one-there : (n f : ℕ) → 0 < f → f < n → getD (laid n f 1 .map) f 0 ≡ 1
-unfolding laid place put
+unfolding laid place layAt
 one-there n f hf h =
     let m = set (replicate n n) 0 0 in
     let free : getD m f 0 ≡ n = getD-set-other (replicate n n) 0 f 0 0 (λ e. absurd (omega arith)) ∙ getD-replicate n f n 0 h in
@@ -320,7 +320,7 @@ pub record Filled (n f s : ℕ) (map : List ℕ) (p : ℕ) : Type 0 where
   pub len : length map ≡ 32
 
 pub filled-first : (n f : ℕ) → 0 < n → n ≤ 32 → Filled n f 1 (set (replicate 32 n) 0 0) 0
-unfolding laid put
+unfolding laid layAt
 filled-first n f h l =
     let e : n + (32 - n) ≡ 32 = omega arith in
     let whole : replicate n n ++ replicate (32 - n) n ≡ replicate 32 n = replicate-append-replicate n (32 - n) n ∙ ap (λ (k : ℕ). replicate k n) e in
@@ -339,7 +339,7 @@ laid-next n f zero h = absurd (not-suc-le-zero h)
 laid-next n f (suc s) h = simp sub-one
 
 pub filled-next : (n f s : ℕ) (map : List ℕ) (p q : ℕ) → n ≤ 32 → s < n → Filled n f s map p → q ≡ emptyFrom map n n ((p + f) % n) → Filled n f (s + 1) (set map q s) q
-unfolding place put
+unfolding place layAt
 filled-next n f s map p q l h fill e =
     let b = laid n f (s - 1) in
     let t = replicate (32 - n) n in
@@ -350,7 +350,7 @@ filled-next n f s map p q l h fill e =
     let free = next-free n f (s - 1) b good (omega (arith, fill .some)) in
     let q-in : q < n = subst (λ (x : ℕ). x < n) (sym slot) (free .0) in
     let now : laid n f (s + 1 - 1) ≡ record { map = set (b .map) q s; last = q } =
-    ap (λ (k : ℕ). laid n f k) (omega arith) ∙ laid-next n f s (fill .some) ∙ ap (λ (x : ℕ). put s (b .map) x) (sym slot) in
+    ap (λ (k : ℕ). laid n f k) (omega arith) ∙ laid-next n f s (fill .some) ∙ ap (λ (x : ℕ). layAt s (b .map) x) (sym slot) in
     record {
       some = omega arith;
       most = omega arith;

@@ -16,16 +16,16 @@ pub record Laid : Type 0 where
   pub map : List ℕ
   pub last : ℕ
 
-unfoldable pub put : (s : ℕ) → (map : List ℕ) → (slot : ℕ) → Laid
-put s map slot = record { map = set map slot s; last = slot }
+unfoldable pub layAt : (s : ℕ) → (map : List ℕ) → (slot : ℕ) → Laid
+layAt s map slot = record { map = set map slot s; last = slot }
 
 -- Each next sector has the first empty slot reached from (previous slot + f) mod n.
 unfoldable pub place : (n f s : ℕ) → Laid → Laid
-place n f s l = put s (l .map) (emptyFrom (l .map) n n ((l .last + f) % n))
+place n f s l = layAt s (l .map) (emptyFrom (l .map) n n ((l .last + f) % n))
 
 -- Sectors 0 to s are placed. Sector 0 has slot 0.
 unfoldable pub laid : (n f s : ℕ) → Laid
-laid n f zero = put 0 (replicate n n) 0
+laid n f zero = layAt 0 (replicate n n) 0
 laid n f (suc s) = place n f (suc s) (laid n f s)
 
 unfoldable pub layoutOf : (n f : ℕ) → List ℕ

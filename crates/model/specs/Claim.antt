@@ -15,7 +15,8 @@ use Rattle.geometry.specs.Params.{trackOf, sectorOf}
 use Rattle.geometry.specs.Medium.{mediumOf}
 use Rattle.geometry.specs.Config.{settingOf, labelSetting}
 use Rattle.track.specs.Image.{trackBytes, slotData}
-use Rattle.track.specs.Find.{Slot, sectorFound}
+use Rattle.track.specs.declared.find.Sector.the-variants.{Slot}
+use Rattle.track.specs.Find.{sectorFound}
 use Rattle.model.specs.declared.record.Controller.{Controller}
 use Rattle.model.specs.declared.record.Answer.{Answer}
 use Rattle.model.specs.Feed.{Feed, reset, command, Reply}

@@ -14,7 +14,7 @@ use Rattle.geometry.specs.declared.params.Params.{Params}
 use Rattle.geometry.specs.declared.config.Setting.the-variants.{Valid, Invalid}
 use Rattle.geometry.specs.Params.{OnDrive, imageLength, trackOf, further}
 use Rattle.geometry.specs.Medium.{mediumOf}
-use Rattle.track.specs.Find.{Slot}
+use Rattle.track.specs.declared.find.Sector.the-variants.{Slot}
 use Rattle.sectors.specs.Transfer.{found}
 use Rattle.contents.specs.Content.{Bytes, contentOf}
 use Rattle.model.specs.declared.block.Block.{Block}

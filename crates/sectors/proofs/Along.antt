@@ -11,8 +11,9 @@ use Rattle.geometry.specs.declared.params.Track.{Track}
 use Rattle.geometry.specs.Params.{trackOf, sectorOf, further, next, track}
 use Rattle.track.specs.declared.find.Where.the-variants.{On, Off}
 use Rattle.track.specs.Image.{trackBytes}
-use Rattle.track.specs.Find.{Fault, whereOf, slotUsed, sectorIn}
-use Rattle.track.proofs.Used.{sector-on, sector-off}
+use Rattle.track.specs.declared.find.Sector.the-variants.{Fault}
+use Rattle.track.specs.Find.{whereOf, slotUsed, sectorIn}
+use Rattle.track.proofs.Laws.{sector-on, sector-off}
 use Rattle.sectors.specs.Transfer.{found}
 
 -- ---- sector s of track t has address a: what is found by where the search for the track's sectors goes on

@@ -1,10 +1,12 @@
 pub mod Runs
 pub mod ReadRun
 pub mod WriteRun
-pub mod Founds
 pub mod Onwards
 pub mod Along
+pub mod Founds
+pub mod Ones
 pub mod Readings
 pub mod ReadLoops
 pub mod WriteParts
 pub mod WriteLoops
+pub mod Laws

@@ -2,7 +2,8 @@
 use mathlib.Core.Path.{_≡_, refl}
 use Prim.Native.Nat.{ℕ}
 use Rattle.geometry.specs.declared.params.Track.{Track}
-use Rattle.track.specs.Find.{Sector, Slot, Fault}
+use Rattle.track.specs.declared.find.Sector.{Sector}
+use Rattle.track.specs.declared.find.Sector.the-variants.{Slot, Fault}
 use Rattle.sectors.specs.Transfer.{Transfer, ended, onward}
 
 pub onward-has : (P : Transfer → Type 0) (x : Transfer) (next : Track → ℕ → Transfer) (s : Sector)

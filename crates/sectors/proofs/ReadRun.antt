@@ -12,9 +12,7 @@ use Rattle.base.proofs.Parts.{length-part, length-splice, splice-lent, splice-o
 use Rattle.geometry.specs.declared.params.Params.{Params}
 use Rattle.geometry.specs.Params.{slotSize, trackSize}
 use Rattle.track.specs.Image.{slotBytes, slotData}
-use Rattle.track.proofs.Images.{slot-room, length-data, data-of-slot}
-use Rattle.track.proofs.Notes.{Found}
-use Rattle.track.proofs.Searched.{slot-none, slot-some, slot-in}
+use Rattle.track.proofs.Laws.{slot-room, length-data, data-of-slot, Found, slot-none, slot-some, slot-in}
 use Rattle.sectors.specs.Run.{runDone, runRead}
 use Rattle.sectors.proofs.Runs.{MayRun, Upto, read-none, read-some, left-next, sector-next, upto-none, upto-all, upto-room, upto-stop, upto-more}
 
@@ -25,7 +23,7 @@ module _ (p : Params) (bytes : List ℕ) (l : length bytes ≡ trackSize p) (k :
   slot-long = ap length e ∙ length-part (k * slotSize p) (slotSize p) bytes (omega (arith, l, slot-room p bytes l k h))
 
   module _ (copied : List ℕ) (ec : copied ≡ part 8 (p .size) slot) where
-    data-copied : copied ≡ slotData p k bytes
+    pub data-copied : copied ≡ slotData p k bytes
     data-copied = ec ∙ ap (part 8 (p .size)) e ∙ data-of-slot p bytes l k
 
     pub data-long : length copied ≡ p .size

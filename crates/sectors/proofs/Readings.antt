@@ -20,11 +20,13 @@ use Rattle.geometry.specs.declared.params.Track.{Track}
 use Rattle.geometry.specs.Params.{trackCount, addressCount, further, next}
 use Rattle.track.specs.declared.find.Where.the-variants.{On}
 use Rattle.track.specs.Image.{Fits, trackBytes, slotData}
-use Rattle.track.specs.Find.{Sector, Slot, Fault, whereOf, slotUsed, sectorIn}
-use Rattle.track.proofs.Images.{length-track, length-data}
+use Rattle.track.specs.declared.find.Sector.{Sector}
+use Rattle.track.specs.declared.find.Sector.the-variants.{Slot, Fault}
+use Rattle.track.specs.Find.{whereOf, slotUsed, sectorIn}
+use Rattle.track.proofs.Laws.{length-track, length-data, Code}
 use Rattle.sectors.specs.Run.{onSlot, runDone, runRead}
 use Rattle.sectors.specs.Transfer.{Transfer, begun, ended, readSlot, onward, found, reading}
-use Rattle.sectors.proofs.Founds.{Code, found-slot, found-fault}
+use Rattle.sectors.proofs.Founds.{found-slot, found-fault}
 use Rattle.sectors.proofs.Onwards.{onward-has}
 use Rattle.sectors.proofs.Along.{Along, along-next, along-on}
 

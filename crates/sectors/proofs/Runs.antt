@@ -14,7 +14,7 @@ use Rattle.geometry.specs.Params.{Within, trackSize}
 use Rattle.track.specs.Image.{slotData, withData}
 use Rattle.track.specs.Find.{slotUsed}
 use Rattle.track.specs.Search.{noteOf, Noted}
-use Rattle.track.proofs.Notes.{Found}
+use Rattle.track.proofs.Laws.{Found}
 use Rattle.sectors.specs.Run.{onSlot, runDone, runRead, runWritten}
 
 -- what read_run and write_run require: a whole track, m sectors from s on, and `area` for their bytes

@@ -19,11 +19,8 @@ use Rattle.geometry.specs.Params.{trackCount, trackSize, trackStart, trackOf, s
 use Rattle.track.specs.declared.find.Where.the-variants.{On, Off}
 use Rattle.track.specs.Image.{Fits, trackBytes, withTrack, withData}
 use Rattle.track.specs.Find.{whereOf, slotUsed, sectorIn}
-use Rattle.track.proofs.Images.{track-room, length-track, length-with-track, track-same, length-with-data, track-lent}
-use Rattle.track.proofs.Finds.{where-in}
-use Rattle.track.proofs.Used.{used-holds}
-use Rattle.track.proofs.Alike.{slot-kept}
-use Rattle.track.proofs.SameIds.{where-same, data-keeps}
+use Rattle.track.proofs.Laws.{track-room, length-track, length-with-track, track-same, length-with-data, track-lent, where-in, used-holds, slot-kept}
+use Rattle.track.proofs.Laws.{where-same, data-keeps}
 use Rattle.sectors.specs.Run.{onSlot, runDone, runWritten}
 use Rattle.sectors.specs.Transfer.{Transfer, begun, ended, writeSlot, onward, writing}
 use Rattle.sectors.specs.declared.transfer.Done.{Done}

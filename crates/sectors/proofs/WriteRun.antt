@@ -11,10 +11,7 @@ use Rattle.geometry.specs.declared.params.Params.{Params}
 use Rattle.geometry.specs.Params.{trackSize}
 use Rattle.track.specs.Image.{slotId, withData}
 use Rattle.track.specs.Search.{Noted}
-use Rattle.track.proofs.Images.{length-with-data}
-use Rattle.track.proofs.Notes.{Found}
-use Rattle.track.proofs.Alike.{Alike, slot-alike, noted-alike, found-alike, with-data-alike}
-use Rattle.track.proofs.Searched.{slot-none, slot-some, slot-in}
+use Rattle.track.proofs.Laws.{length-with-data, Found, Alike, slot-alike, noted-alike, found-alike, with-data-alike, slot-none, slot-some, slot-in}
 use Rattle.sectors.specs.Run.{runDone, runWritten}
 use Rattle.sectors.proofs.Runs.{MayRun, Upto, written-none, written-some, left-next, sector-next, upto-none, upto-all, upto-room, upto-stop, upto-more}
 

@@ -7,7 +7,9 @@ use Rattle.geometry.specs.declared.params.Track.{Track}
 use Rattle.geometry.specs.declared.params.Params.{Params}
 use Rattle.geometry.specs.Params.{trackOf, sectorOf, next}
 use Rattle.track.specs.Image.{trackBytes, withTrack, slotData, withData}
-use Rattle.track.specs.Find.{Sector, Slot, Fault, sectorFound}
+use Rattle.track.specs.declared.find.Sector.{Sector}
+use Rattle.track.specs.declared.find.Sector.the-variants.{Slot, Fault}
+use Rattle.track.specs.Find.{sectorFound}
 
 -- What is done so far: sectors, bytes handed over, the last sector, the image; and the code that ended it, or 0.
 pub record Transfer : Type 0 where

@@ -5,8 +5,11 @@ use crate::transfer::done_of;
 use crate::transfer::sectors_here;
 use geometry::params::Lba;
 use geometry::params::Params;
+use track::find::Sector;
 use track::find::Where;
+use track::find::find_sector;
 use track::find::where_is;
+use track::sector::write_data;
 ghost use mathlib.Core.Path.{_≡_};
 ghost use Prim.Native.Nat.{_+_, _*_, _≤_, _<_};
 ghost use lib.ListN.{length};
@@ -14,11 +17,38 @@ ghost use Rattle.geometry.specs.Params.{sectorOf, addressCount, OnDrive};
 ghost use Rattle.track.specs.Image.{Fits};
 ghost use Rattle.sectors.specs.Promises.{HasWritten};
 
+// Writes the sector at an address.
+fn write_one(image: &mut [u8], p: Params, a: Lba, sector: &[u8]) -> Done
+    requires { ⌜ Fits p (now image) × OnDrive p a × (length (now sector) ≡ p .size) ⌝ }
+    ensures { λ r. ⌜ HasWritten p 1 a (now (sector .entry)) r (now (image .entry)) (now (image .exit)) ⌝ }
+{
+    let found = find_sector(image, p, p.track_of(a), p.sector_of(a) as usize);
+    match found {
+        Sector::Fault(code) => Done {
+            sectors: 0,
+            code: code,
+        },
+        Sector::Slot(u, k) => {
+            let stretch = p.stretch(u);
+            let start = stretch.start;
+            let end = stretch.end;
+            write_data(&mut image[start..end], p, k, sector);
+            Done {
+                sectors: 1,
+                code: 0,
+            }
+        }
+    }
+}
+
 // Writes n sectors of one track from an address on.
 fn write_part(image: &mut [u8], p: Params, a: Lba, n: usize, given: &[u8]) -> Done
     requires { ⌜ Fits p (now image) × OnDrive p a × (1 ≤ n) × (sectorOf p a + n ≤ p .sectors) × (length (now given) ≡ n * p .size) ⌝ }
     ensures { λ r. ⌜ HasWritten p n a (now (given .entry)) r (now (image .entry)) (now (image .exit)) ⌝ }
 {
+    if n == 1 {
+        return write_one(image, p, a, given);
+    }
     let place = where_is(image, p, p.track_of(a));
     match place {
         Where::Off(code) => Done {

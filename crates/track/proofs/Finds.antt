@@ -1,14 +1,13 @@
 -- Laws of finding a sector: where the search goes on, and where slots lie.
 use mathlib.Core.Path.{_≡_, refl, sym, ap, _∙_}
-use mathlib.Core.Bool.{Bool, true, false, not, _&&_, false≢true}
+use mathlib.Core.Bool.{Bool, true, false}
 use mathlib.Core.List.{List}
 use Prim.Native.Nat.{ℕ, _+_, _-_, _*_, _≤_, _<_}
 use native.Mathlib.Omega.{arith}
 use native.Mathlib.Nat.{suc-mul}
 use native.Mathlib.Numerals.{add-one}
 use lib.ListN.{take, drop}
-use lib.Dec.{eqb, ltb}
-use borrow.Author.Tests.{ltb-true, eq-eqb, ne-eqb, not-true, not-false}
+use lib.Dec.{eqb}
 use Rattle.base.specs.Pick.{pick}
 use Rattle.base.specs.Part.{part}
 use Rattle.base.proofs.Parts.{part-lent, cell-in}
@@ -21,40 +20,7 @@ use Rattle.track.specs.declared.find.Where.the-variants.{On, Off}
 use Rattle.track.specs.Id.{ownId}
 use Rattle.track.specs.Image.{firstId}
 use Rattle.track.specs.Find.{takenBy, whereBy, whereOf}
-
--- ---- whether a track is taken by another, test by test
-module _ (p : Params) (t u : Track) (id : Id) where
-  pub taken-past : ltb (u .0) (trackCount p) ≡ false → false ≡ takenBy p t u id
-  unfolding takenBy
-  taken-past h = simp h
-
-  module _ (h : ltb (u .0) (trackCount p) ≡ true) where
-    pub taken-unmarked : (id .mark ≡ 0xA1 → ⊥) → false ≡ takenBy p t u id
-    unfolding takenBy
-    taken-unmarked m = simp (h, ne-eqb _ _ m)
-
-    module _ (m : id .mark ≡ 0xA1) (own : Bool) (eo : own ≡ ownId p u id) where
-      pub taken-other : not own ≡ true → false ≡ takenBy p t u id
-      unfolding takenBy
-      taken-other o = simp (h, eq-eqb _ _ m, sym eo ∙ not-true own o)
-
-      module _ (o : not own ≡ false) where
-        pub taken-flag : (id .flag ≡ 3 → ⊥) → false ≡ takenBy p t u id
-        unfolding takenBy
-        taken-flag f = simp (h, eq-eqb _ _ m, sym eo ∙ not-false own o, ne-eqb _ _ f)
-
-        pub taken-partner : id .flag ≡ 3 → eqb (id .partner .0) (t .0) ≡ takenBy p t u id
-        unfolding takenBy
-        taken-partner f = simp (h, eq-eqb _ _ m, sym eo ∙ not-false own o, eq-eqb _ _ f)
-
-left-true : (a b : Bool) → (a && b) ≡ true → a ≡ true
-left-true true b e = refl
-left-true false b e = absurd (false≢true e)
-
--- what is taken is a track of the drive
-pub taken-in : (p : Params) (t u : Track) (id : Id) → takenBy p t u id ≡ true → u .0 < trackCount p
-unfolding takenBy
-taken-in p t u id e = ltb-true _ _ (left-true _ _ (left-true _ _ (left-true _ _ (left-true _ _ e))))
+use Rattle.track.proofs.Takens.{taken-in}
 
 -- ---- where the search goes on
 pub where-from : (p : Params) (t : Track) (image : List ℕ) (id : Id) (own taken : Bool) → id ≡ firstId p t image → own ≡ ownId p t id
@@ -99,6 +65,24 @@ unfolding whereOf
 where-in p t image w ew h u e =
     let id : Id = firstId p t image in
     below-by (trackCount p) t id _ _ h (λ k. taken-in p t (id .partner) _ k) u (sym ew ∙ e)
+
+-- ---- what holds of where the search goes on: at an error, on the track itself, on its partner
+pick-has : (P : Where → Type 0) (b : Bool) (x y : Where) → (b ≡ true → P x) → (b ≡ false → P y) → P (pick b x y)
+unfolding pick
+pick-has P true x y hx hy = hx refl
+pick-has P false x y hx hy = hy refl
+
+pub where-has : (P : Where → Type 0) (t : Track) (id : Id) (own taken : Bool) → ((code : ℕ) → P (Off code))
+    → (eqb (id .flag) 3 ≡ false → P (On t)) → (taken ≡ true → P (On (id .partner))) → P (whereBy t id own taken)
+unfolding whereBy
+where-has P t id own taken off here there =
+    pick-has P _ _ _ (λ e. off _) (λ e.
+    pick-has P _ _ _ (λ e. off _) (λ e.
+    pick-has P _ _ _ (λ e. off _) (λ e.
+    pick-has P _ _ _ (λ e. off _) (λ e.
+    pick-has P _ _ _ (λ e. off _) (λ z.
+    pick-has P _ _ _ (λ e. pick-has P taken _ _ there (λ e. off _)) (λ e.
+    here z))))))
 
 -- ---- slots side by side, each of this size: slot k lies at `at`
 pub id-lent : (size at k : ℕ) (bytes : List ℕ) → at ≡ k * size → take (at + 8 - at) (drop at bytes) ≡ part (k * size) 8 bytes

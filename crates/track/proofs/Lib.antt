@@ -1,9 +1,13 @@
 pub mod Ids
 pub mod Images
+pub mod Takens
 pub mod Finds
 pub mod Used
+pub mod Seeks
+pub mod Located
 pub mod Notes
 pub mod Searched
 pub mod Alike
 pub mod SameIds
 pub mod Pairs
+pub mod Laws

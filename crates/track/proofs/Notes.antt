@@ -13,7 +13,6 @@ use lib.Dec.{eqb, ltb}
 use borrow.Author.Tests.{lt-ltb, le-ltb, eq-eqb, ne-eqb}
 use Rattle.base.specs.Pick.{pick}
 use Rattle.base.specs.First.{firstFrom, firstBelow}
-use Rattle.base.specs.Part.{part}
 use Rattle.base.proofs.Decide.{pick-false}
 use Rattle.base.proofs.Parts.{getD-any}
 use Rattle.base.proofs.Firsts.{first-some}
@@ -25,6 +24,7 @@ use Rattle.track.specs.Image.{slotId}
 use Rattle.track.specs.Find.{holds, slotUsed}
 use Rattle.track.specs.Search.{noteOf, noted, Noted}
 use Rattle.track.proofs.Finds.{id-lent, place-more}
+use Rattle.track.proofs.Seeks.{holdsAt}
 
 -- ---- the first of c + d numbers is the first of the c, or else the first of the d behind them
 first-step : (test : ℕ → Bool) (k c d : ℕ) (b : Bool) → firstFrom test (suc k) (c + d) ≡ orElse (firstFrom test (suc k) c) (firstFrom test (k + suc c) d)
@@ -146,9 +146,6 @@ pub place-in : (w n size k len : ℕ) → size ≡ w → len ≡ n * w → k ≤
 place-in w n size k len es l h = let z : n * size ≡ n * w = ap (λ (i : ℕ). n * i) es in omega (arith, mul-le-mul-right size h)
 
 -- of the parameters the notes go by the slots' size alone
-abbrev holdsAt : (size s : ℕ) → (bytes : List ℕ) → (k : ℕ) → Bool
-holdsAt size s bytes k = eqb (idIn (part (k * size) 8 bytes) .mark) 0xA1 && eqb (idIn (part (k * size) 8 bytes) .sector) s
-
 same-size : (p u : Params) (bytes slots : List ℕ) (k : ℕ) → slotSize p ≡ slotSize u → Noted p bytes slots k → Noted u bytes slots k
 unfolding Noted holds slotId
 same-size p u bytes slots k e w s h = w s h ∙ ap (λ (size : ℕ). noteOf (firstBelow (holdsAt size s bytes) k)) e

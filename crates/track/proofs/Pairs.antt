@@ -2,12 +2,13 @@
 use mathlib.Core.Path.{_≡_, refl, sym, _∙_}
 use mathlib.Core.Bool.{Bool, true, false, not, _||_}
 use mathlib.Core.List.{List}
-use Prim.Native.Nat.{ℕ, _+_, _≤_, _<_}
+use Prim.Native.Nat.{ℕ, _≤_, _<_}
+use native.Mathlib.Numerals.{add-one}
 use lib.Dec.{ltb}
 use Rattle.base.proofs.Firsts.{Sought, sought-none, sought-hit, sought-more, sought-all, some-hit, some-none}
 use Rattle.geometry.specs.declared.params.Params.{Params}
 use Rattle.geometry.specs.declared.params.Track.{Track}
-use Rattle.geometry.specs.Params.{trackCount, track}
+use Rattle.geometry.specs.Params.{trackCount, track, nextTrack}
 use Rattle.track.specs.declared.state.State.{State}
 use Rattle.track.specs.Pair.{stateOf, oneBelow, splits, pairSplit}
 
@@ -24,29 +25,29 @@ module _ (s t u : Track) (one other : Bool) (eo : one ≡ ltb (t .0) (s .0)) (eu
   unfolding oneBelow
   below-other h = rw (sym eo ∙ h, ← eu)
 
--- ---- the loop: no track below k is of a pair that is split
+-- ---- the loop: no track before t is of a pair that is split
 abbrev splitAt : Params → (s : Track) → List ℕ → (k : ℕ) → Bool
 splitAt p s image k = splits s (track k) (stateOf p (track k) image)
 
-abbrev pub Whole : Params → (s : Track) → List ℕ → (count k : ℕ) → Type 0
-Whole p s image count k = Sought (splitAt p s image) count k
+abbrev pub Whole : Params → (s : Track) → List ℕ → (t : Track) → Type 0
+Whole p s image t = Sought (splitAt p s image) (trackCount p) (t .0)
 
-module _ (p : Params) (s : Track) (image : List ℕ) (count : ℕ) where
-  pub whole-none : Whole p s image count 0
-  whole-none = sought-none _ _
+module _ (p : Params) (s : Track) (image : List ℕ) where
+  pub whole-none : (t : Track) → t ≡ track 0 → Whole p s image t
+  whole-none t e = rw e (sought-none _ _)
 
-  module _ (k : ℕ) (w : Whole p s image count k) where
-    module _ (t : Track) (state : State) (is : Bool) (et : t ≡ track k) (es : state ≡ stateOf p t image) (ei : is ≡ splits s t state) (h : k < count) where
-      here : splitAt p s image k ≡ is
-      here = rw (← et, ← es) (sym ei)
+  module _ (t : Track) (w : Whole p s image t) where
+    module _ (state : State) (is : Bool) (es : state ≡ stateOf p t image) (ei : is ≡ splits s t state) (h : t .0 < trackCount p) where
+      here : splitAt p s image (t .0) ≡ is
+      here = rw (← es) (sym ei)
 
-      pub whole-more : is ≡ false → Whole p s image count (k + 1)
-      whole-more e = sought-more _ _ k w h (here ∙ e)
+      pub whole-more : is ≡ false → (u : Track) → u ≡ nextTrack t → Whole p s image u
+      whole-more e u eu = rw (eu, ← add-one (t .0)) (sought-more _ _ (t .0) w h (here ∙ e))
 
-      pub whole-hit : count ≡ trackCount p → is ≡ true → true ≡ pairSplit p s image
+      pub whole-hit : is ≡ true → true ≡ pairSplit p s image
       unfolding pairSplit
-      whole-hit ec e = sym (some-hit _ _ k (rw ec at (sought-hit _ _ k w h (here ∙ e))))
+      whole-hit e = sym (some-hit _ _ (t .0) (sought-hit _ _ (t .0) w h (here ∙ e)))
 
-    pub whole-all : count ≡ trackCount p → count ≤ k → false ≡ pairSplit p s image
+    pub whole-all : trackCount p ≤ t .0 → false ≡ pairSplit p s image
     unfolding pairSplit
-    whole-all ec h = sym (some-none _ _ (rw ec at (sought-all _ _ k w h)))
+    whole-all h = sym (some-none _ _ (sought-all _ _ (t .0) w h))

@@ -17,7 +17,8 @@ use Rattle.track.specs.Image.{trackBytes, withTrack, slotId, withData, f
 use Rattle.track.specs.Find.{takenBy, whereBy, whereOf, slotUsed, sectorIn, sectorFrom, sectorFound}
 use Rattle.track.proofs.Images.{length-track, track-same, track-other, length-with-data, id-kept}
 use Rattle.track.proofs.Alike.{slot-alike}
-use Rattle.track.proofs.Finds.{taken-past, where-in}
+use Rattle.track.proofs.Takens.{taken-past}
+use Rattle.track.proofs.Finds.{where-in}
 
 -- two images with the same ID in every slot of every track
 pub record SameIds (p : Params) (a b : List ℕ) : Type 0 where
@@ -36,7 +37,7 @@ module _ (p : Params) (a b : List ℕ) (some-sector : 0 < p .sectors) (same : Sa
       by (yes l) = ap (takenBy p t u) (first-id-same u l)
       by (no l) =
           let past = le-ltb (u .0) (trackCount p) (omega arith) in
-          sym (taken-past p t u (firstId p u a) past) ∙ taken-past p t u (firstId p u b) past
+          taken-past p t u (firstId p u a) past ∙ sym (taken-past p t u (firstId p u b) past)
 
   pub where-same : (t : Track) → t .0 < trackCount p → whereOf p t a ≡ whereOf p t b
   unfolding whereOf

@@ -14,7 +14,8 @@ use Rattle.track.specs.declared.find.Where.the-variants.{On, Off}
 use Rattle.track.specs.declared.id.Id.{Id}
 use Rattle.track.specs.Id.{idIn}
 use Rattle.track.specs.Image.{trackBytes, slotId}
-use Rattle.track.specs.Find.{Fault, whereOf, holds, slotUsed, sectorIn, sectorFrom, sectorFound}
+use Rattle.track.specs.declared.find.Sector.the-variants.{Fault}
+use Rattle.track.specs.Find.{whereOf, holds, slotUsed, sectorIn, sectorFrom, sectorFound}
 
 module _ (p : Params) (s : ℕ) (bytes : List ℕ) where
   pub used-holds : (k : ℕ) → slotUsed p s bytes ≡ some k → (k < p .sectors) × (holds p s bytes k ≡ true)

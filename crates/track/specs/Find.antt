@@ -12,6 +12,8 @@ use Rattle.geometry.specs.Params.{trackCount}
 use Rattle.track.specs.declared.id.Id.{Id}
 use Rattle.track.specs.declared.find.Where.{Where}
 use Rattle.track.specs.declared.find.Where.the-variants.{On, Off}
+use Rattle.track.specs.declared.find.Sector.{Sector}
+use Rattle.track.specs.declared.find.Sector.the-variants.{Slot, Fault}
 use Rattle.track.specs.Id.{idIn, ownId}
 use Rattle.track.specs.Image.{trackBytes, slotId, firstId}
 
@@ -45,11 +47,6 @@ holds p s bytes k = eqb (idIn (slotId p k bytes) .mark) 0xA1 && eqb (idIn (slotI
 -- Of the slots that hold s the one nearest the track's start is used (request E2).
 unfoldable pub slotUsed : Params → (s : ℕ) → (bytes : List ℕ) → Option ℕ
 slotUsed p s bytes = firstBelow (holds p s bytes) (p .sectors)
-
--- The track and the slot that a sector is in, or an error's code.
-pub data Sector : Type 0 where
-  Slot : Track → ℕ → Sector
-  Fault : ℕ → Sector
 
 -- No slot holds s: 14h.
 unfoldable pub sectorIn : Track → Option ℕ → Sector

@@ -68,7 +68,7 @@ fn read_id(slot: &[u8]) -> Id
         head: slot[3],
         sector: slot[4],
         flag: slot[5],
-        partner: Track::numbered(two_bytes(slot[6], slot[7]) as u32),
+        partner: Track::of_bytes(slot[6], slot[7]),
     }
 }
 

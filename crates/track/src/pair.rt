@@ -71,14 +71,12 @@ pub fn splits_pair(image: &[u8], p: Params, s: Track) -> bool
     requires { ⌜ Fits p (now image) ⌝ }
     ensures { λ r. ⌜ r ≡ pairSplit p s (now (image .entry)) ⌝ }
 {
-    let count = p.tracks();
-    let mut k = 0;
-    while k < count {
-        let t = Track::numbered(k);
+    let mut t = Track::first();
+    while p.has_track(t) {
         if is_split(s, t, state_of(image, p, t)) {
             return true;
         }
-        k += 1;
+        t = t.next();
     }
     false
 }

@@ -26,8 +26,8 @@ pub fn partner_of(state: State) -> Track
     ensures { λ r. ⌜ r ≡ partnerOf state ⌝ }
 {
     match state {
-        State::Sound => Track::numbered(0),
-        State::Bad => Track::numbered(0),
+        State::Sound => Track::first(),
+        State::Bad => Track::first(),
         State::Moved(partner) => partner,
         State::Taken(partner) => partner,
     }

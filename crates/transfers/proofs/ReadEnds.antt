@@ -12,7 +12,7 @@ use Rattle.track.specs.Image.{Fits}
 use Rattle.sectors.specs.Transfer.{begun, reading}
 use Rattle.sectors.specs.declared.transfer.Done.{Done}
 use Rattle.sectors.specs.Promises.{HasRead}
-use Rattle.sectors.proofs.Readings.{Handed, reading-handed}
+use Rattle.sectors.proofs.Laws.{Handed, reading-handed}
 use Rattle.model.specs.declared.block.Block.{Block}
 use Rattle.model.specs.declared.record.Drive.{Drive}
 use Rattle.model.specs.declared.record.Ending.{Ending}

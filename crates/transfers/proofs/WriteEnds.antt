@@ -14,8 +14,8 @@ use Rattle.geometry.specs.Params.{next}
 use Rattle.sectors.specs.Transfer.{Transfer, begun, ended, writeSlot, found, writing}
 use Rattle.sectors.specs.declared.transfer.Done.{Done}
 use Rattle.sectors.specs.Promises.{HasWritten}
-use Rattle.sectors.proofs.Founds.{Code, found-fault}
-use Rattle.sectors.proofs.Onwards.{onward-has}
+use Rattle.track.proofs.Laws.{Code}
+use Rattle.sectors.proofs.Laws.{found-fault, onward-has}
 use Rattle.model.specs.declared.block.Block.{Block}
 use Rattle.model.specs.declared.record.Drive.{Drive}
 use Rattle.model.specs.declared.record.Ending.{Ending}

@@ -11,13 +11,15 @@ use Rattle.base.specs.Same.{sameBytes}
 use Rattle.geometry.specs.declared.params.Lba.{Lba}
 use Rattle.geometry.specs.declared.params.Params.{Params}
 use Rattle.geometry.specs.Params.{track}
-use Rattle.interleave.specs.Layout.{emptyFrom, put, place, laid, layoutOf}
+use Rattle.interleave.specs.Layout.{emptyFrom, layAt, place, laid, layoutOf}
 use Rattle.track.specs.declared.state.State.{State}
 use Rattle.track.specs.declared.state.State.the-variants.{Sound, Bad, Moved, Taken}
 use Rattle.track.specs.Id.{idBytes, idIn, idFor, ownId, withSector}
 use Rattle.track.specs.State.{flagOf, partnerOf}
 use Rattle.track.specs.Image.{trackBytes, withTrack, slotId, slotData, withData, firstId}
-use Rattle.track.specs.Find.{Sector, Slot, Fault, takenBy, whereBy, whereOf, holds, slotUsed, sectorIn, sectorFrom, sectorFound}
+use Rattle.track.specs.declared.find.Sector.{Sector}
+use Rattle.track.specs.declared.find.Sector.the-variants.{Slot, Fault}
+use Rattle.track.specs.Find.{takenBy, whereBy, whereOf, holds, slotUsed, sectorIn, sectorFrom, sectorFound}
 use Rattle.track.specs.Pair.{stateBy, stateOf, oneBelow, splits, pairSplit}
 use Rattle.formatter.specs.Format.{slotMade, slotsMade, formatted}
 use Rattle.formatter.specs.Check.{idIs, idsAre, homeState, checkedOn, checkCode}
@@ -43,7 +45,7 @@ made t state image = withTrack p (track t) (formatted p (track t) state (layoutO
 
 formats : made 0 Sound (made 3 (Taken (track 2)) (made 2 (Moved (track 3)) (made 1 Bad (replicate 124 0xEE)))) ≡ whole
 unfolding p slot whole made withTrack splice formatted slotsMade slotMade rows withSector idBytes idFor flagOf partnerOf
-    layoutOf laid place put emptyFrom pick
+    layoutOf laid place layAt emptyFrom pick
 formats = refl
 
 -- byte i of slot k of track t is v
@@ -178,7 +180,7 @@ checking :
     × (check 0 (hurt 0 2 8 9 whole) ≡ 0)
 unfolding p slot whole hurt check each checkCode checkedOn idsAre idIs homeState sameBytes everyBelow someBelow isSome firstBelow firstFrom
     whereOf whereBy takenBy ownId firstId idIn trackBytes slotId part pick withSector idBytes idFor flagOf partnerOf
-    layoutOf laid place put emptyFrom
+    layoutOf laid place layAt emptyFrom
 checking = (refl, refl, refl, refl, refl, refl, refl, refl, refl)
 
 -- ---- The format commands go by slot 0 alone

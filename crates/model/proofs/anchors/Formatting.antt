@@ -12,7 +12,7 @@ use Rattle.geometry.specs.declared.params.Params.{Params}
 use Rattle.geometry.specs.declared.config.Setting.the-variants.{Valid}
 use Rattle.geometry.specs.Medium.{mediumOf, isFloppy}
 use Rattle.geometry.specs.Params.{track}
-use Rattle.interleave.specs.Layout.{emptyFrom, put, place, laid, layoutOf}
+use Rattle.interleave.specs.Layout.{emptyFrom, layAt, place, laid, layoutOf}
 use Rattle.track.specs.declared.state.State.the-variants.{Bad}
 use Rattle.track.specs.Id.{idBytes, idIn, idFor, ownId, withSector}
 use Rattle.track.specs.State.{flagOf, partnerOf, isBad, isMoved, isTaken}
@@ -90,7 +90,7 @@ formats :
 unfolding p config other entry controller leavesOn leaves slot old carryOut doDisk doTrack asEffect formatDrive formatTrack assignAlternate assigned driveFormatted madeAt
     plainByte plainFill fillOf fromBuffer mediumOf isFloppy blockOf alternateOf judged aloneTests assignTests isBad isMoved isTaken unless driveAt blankDrive
     pairSplit splits stateOf stateBy firstId idIn ownId trackBytes slotId withTrack part splice rows formatted slotsMade slotMade withSector
-    idBytes idFor flagOf partnerOf soundFrom layoutOf laid place put emptyFrom someBelow isSome firstBelow firstFrom pick
+    idBytes idFor flagOf partnerOf soundFrom layoutOf laid place layAt emptyFrom someBelow isSome firstBelow firstFrom pick
 formats = (refl, refl, refl, refl, refl, refl, refl, refl, refl, refl)
 
 -- ---- With four sectors a track and interleave 3: sectors 0, 3, 2, 1 are in slots 0, 1, 2, 3 of every track that is made
@@ -116,7 +116,7 @@ interleaved :
 unfolding q config other entry controller makes track-of slot old carryOut doDisk doTrack asEffect formatDrive formatTrack assignAlternate assigned driveFormatted madeAt
     plainByte plainFill fillOf fromBuffer mediumOf isFloppy blockOf alternateOf judged aloneTests assignTests isBad isMoved isTaken unless driveAt blankDrive
     pairSplit splits stateOf stateBy firstId idIn ownId trackBytes slotId withTrack part splice rows formatted slotsMade slotMade withSector
-    idBytes idFor flagOf partnerOf soundFrom layoutOf laid place put emptyFrom someBelow isSome firstBelow firstFrom pick
+    idBytes idFor flagOf partnerOf soundFrom layoutOf laid place layAt emptyFrom someBelow isSome firstBelow firstFrom pick
 interleaved = (refl, refl, refl, refl)
 
 -- Track 1 made bad, on a stretch of five slots with interleave 2: after each number of steps the slots so far are there, whole and
@@ -131,5 +131,5 @@ steps :
     × (after 3 ≡ slot 0xA1 0 0 1 0 1 0 0 7 ++ slot 0xA1 0 0 1 3 1 0 0 7 ++ slot 0xA1 0 0 1 1 1 0 0 7 ++ old 18)
     × (after 5 ≡ slot 0xA1 0 0 1 0 1 0 0 7 ++ slot 0xA1 0 0 1 3 1 0 0 7 ++ slot 0xA1 0 0 1 1 1 0 0 7 ++ slot 0xA1 0 0 1 4 1 0 0 7
     ++ slot 0xA1 0 0 1 2 1 0 0 7)
-unfolding p after slot old afterSteps stepped slotMade withSector idBytes idFor flagOf partnerOf splice layoutOf laid place put emptyFrom pick
+unfolding p after slot old afterSteps stepped slotMade withSector idBytes idFor flagOf partnerOf splice layoutOf laid place layAt emptyFrom pick
 steps = (refl, refl, refl, refl, refl)

@@ -16,7 +16,7 @@ use Rattle.geometry.specs.declared.params.Params.{Params}
 use Rattle.geometry.specs.declared.config.Setting.the-variants.{Valid, Invalid}
 use Rattle.geometry.specs.Medium.{mediumOf, isFloppy, isIn, rangesOf}
 use Rattle.geometry.specs.Config.{sizeFor, fittedTo, fieldsIn, settingBy, settingOf, isValid, labelSetting, labelHolds}
-use Rattle.interleave.specs.Layout.{emptyFrom, put, place, laid, layoutOf}
+use Rattle.interleave.specs.Layout.{emptyFrom, layAt, place, laid, layoutOf}
 use Rattle.track.specs.Id.{idBytes, idIn, idFor, ownId, withSector}
 use Rattle.track.specs.State.{flagOf, partnerOf, isMoved, isTaken}
 use Rattle.track.specs.Image.{trackBytes, withTrack, slotId, slotData, withData, firstId}
@@ -89,7 +89,7 @@ facts :
     × (settingIn (mediumOf 3) (driveAt (made .outcome .controller) 3) (length (imageOf 3 (made .images))) ≡ Invalid)
     × (isGood 2 (wrote .outcome .answer) ≡ true)
 unfolding p start then block config sectors made wrote lba pick part splice rows firstFrom firstBelow isSome someBelow sameBytes
-    mediumOf isFloppy isIn rangesOf sizeFor fittedTo fieldsIn settingBy settingOf isValid labelSetting labelHolds emptyFrom put place laid layoutOf
+    mediumOf isFloppy isIn rangesOf sizeFor fittedTo fieldsIn settingBy settingOf isValid labelSetting labelHolds emptyFrom layAt place laid layoutOf
     idBytes idIn idFor ownId withSector flagOf partnerOf isMoved isTaken trackBytes withTrack slotId slotData withData firstId
     takenBy whereBy whereOf holds slotUsed sectorIn sectorFrom sectorFound stateBy stateOf splits pairSplit slotMade slotsMade formatted soundFrom
     begun ended writeSlot onward found writing contentIn contentOf blockOf countOf fromBuffer checkNumber isAmong rowFor

@@ -18,7 +18,7 @@ use Rattle.interleave.specs.Layout.{layoutOf}
 use Rattle.interleave.proofs.Slots.{slotOf, slot-lt}
 use Rattle.track.specs.Image.{trackBytes, slotId, slotData}
 use Rattle.formatter.specs.Format.{formatted}
-use Rattle.formatter.proofs.Formed.{Formed, format-forms, format-fills}
+use Rattle.formatter.proofs.Laws.{Formed, format-forms, format-fills}
 use Rattle.model.specs.Machine.{Kind, stateless, sound, bad, moved, taken, Disk, isMoved, isTaken}
 use Rattle.model.specs.Claim.{isHeld}
 use Rattle.model.proofs.claim.Mirrors.{stateFor, homeOf, Paired, Mirrors}

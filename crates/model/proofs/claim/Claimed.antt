@@ -19,7 +19,8 @@ use Rattle.geometry.specs.Config.{settingOf}
 use Rattle.geometry.proofs.Settings.{setting-within}
 use Rattle.geometry.proofs.Addresses.{track-of-drive}
 use Rattle.track.specs.Image.{trackBytes, slotData}
-use Rattle.track.specs.Find.{Slot, sectorFound}
+use Rattle.track.specs.declared.find.Sector.the-variants.{Slot}
+use Rattle.track.specs.Find.{sectorFound}
 use Rattle.model.specs.declared.verdict.Verdict.the-variants.{Faulty, Passed}
 use Rattle.model.specs.Feed.{Reply}
 use Rattle.model.specs.Checks.{judged}

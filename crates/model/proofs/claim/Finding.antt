@@ -12,8 +12,9 @@ use Rattle.geometry.specs.Params.{Within, imageLength, trackCount, trackOf, sec
 use Rattle.interleave.proofs.Slots.{slotOf}
 use Rattle.track.specs.declared.state.State.the-variants.{Sound, Bad, Moved, Taken}
 use Rattle.track.specs.Image.{trackBytes, slotData}
-use Rattle.track.specs.Find.{Slot, Fault, sectorFound}
-use Rattle.formatter.proofs.Formed.{Formed, found-sound, found-moved, found-bad, found-taken}
+use Rattle.track.specs.declared.find.Sector.the-variants.{Slot, Fault}
+use Rattle.track.specs.Find.{sectorFound}
+use Rattle.formatter.proofs.Laws.{Formed, found-sound, found-moved, found-bad, found-taken}
 use Rattle.model.specs.declared.verdict.Verdict.the-variants.{Faulty, Passed}
 use Rattle.model.specs.Checks.{judged}
 use Rattle.model.specs.Machine.{Kind, stateless, sound, bad, moved, taken, isBad, isTaken, denied}

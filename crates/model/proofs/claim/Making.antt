@@ -12,9 +12,9 @@ use Rattle.geometry.specs.declared.params.Params.{Params}
 use Rattle.geometry.specs.Params.{Within, imageLength, trackCount, trackSize, trackOf}
 use Rattle.interleave.specs.Layout.{layoutOf}
 use Rattle.interleave.proofs.Layouts.{layout-length}
-use Rattle.track.proofs.Images.{length-with-track, track-same, track-other, label-kept}
+use Rattle.track.proofs.Laws.{length-with-track, track-same, track-other, label-kept}
 use Rattle.formatter.specs.Format.{formatted}
-use Rattle.formatter.proofs.Formats.{length-formatted}
+use Rattle.formatter.proofs.Laws.{length-formatted}
 use Rattle.model.specs.declared.block.Block.{Block}
 use Rattle.model.specs.Commands.{madeAt}
 use Rattle.model.specs.Machine.{Kind, Disk, becomes, filled}

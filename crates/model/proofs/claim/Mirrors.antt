@@ -14,7 +14,7 @@ use Rattle.interleave.proofs.Slots.{slotOf}
 use Rattle.track.specs.declared.state.State.{State}
 use Rattle.track.specs.declared.state.State.the-variants.{Sound, Bad, Moved, Taken}
 use Rattle.track.specs.Image.{trackBytes, slotData}
-use Rattle.formatter.proofs.Formed.{Formed}
+use Rattle.formatter.proofs.Laws.{Formed}
 use Rattle.model.specs.Machine.{Kind, stateless, sound, bad, moved, taken}
 use Rattle.model.specs.Claim.{isHeld}
 

@@ -26,7 +26,7 @@ use Rattle.track.specs.declared.state.State.the-variants.{Sound, Bad, Moved, Ta
 use Rattle.track.specs.Pair.{stateOf, oneBelow, splits, pairSplit}
 use Rattle.track.specs.State.{isBad as badState, isMoved as movedState, isTaken as takenState}
 use Rattle.formatter.specs.Check.{checkCode}
-use Rattle.formatter.proofs.Formed.{state-formed, check-sound, check-moved, check-bad, check-taken}
+use Rattle.formatter.proofs.Laws.{state-formed, check-sound, check-moved, check-bad, check-taken}
 use Rattle.model.specs.Checks.{Test, on, judged}
 use Rattle.model.specs.Commands.{checkTests, aloneTests, assignTests}
 use Rattle.model.specs.Machine.{Kind, stateless, sound, bad, moved, taken, isBad, isMoved, isTaken, denied, paired, parted, partedBy, someParted, unassignable}

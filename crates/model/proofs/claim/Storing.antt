@@ -17,8 +17,8 @@ use Rattle.geometry.specs.Params.{Within, imageLength, trackSize, trackCount, t
 use Rattle.geometry.proofs.Addresses.{track-in, sector-in, same-lba}
 use Rattle.interleave.proofs.Slots.{sectorAt, slotOf, slot-lt, sector-slot}
 use Rattle.track.specs.Image.{trackBytes, withTrack, slotData, withData}
-use Rattle.track.proofs.Images.{length-track, length-with-track, track-same, track-other, label-kept, length-data, length-with-data, data-same, data-other}
-use Rattle.track.proofs.SameIds.{SameIds, data-keeps}
+use Rattle.track.proofs.Laws.{length-track, length-with-track, track-same, track-other, label-kept, length-data, length-with-data, data-same}
+use Rattle.track.proofs.Laws.{data-other, SameIds, data-keeps}
 use Rattle.model.specs.Machine.{Kind}
 use Rattle.model.specs.Claim.{isHeld}
 use Rattle.model.proofs.claim.Mirrors.{homeOf, Mirrors, KeepsLabel}

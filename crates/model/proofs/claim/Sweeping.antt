@@ -21,7 +21,7 @@ use Rattle.interleave.specs.Layout.{layoutOf}
 use Rattle.interleave.proofs.Layouts.{layout-length}
 use Rattle.track.specs.Image.{trackBytes}
 use Rattle.formatter.specs.Format.{soundFrom}
-use Rattle.formatter.proofs.Sounds.{length-sound, sound-before, sound-in}
+use Rattle.formatter.proofs.Laws.{length-sound, sound-before, sound-in}
 use Rattle.model.specs.Machine.{Kind, stateless, sound, Disk, parted, partedBy, someParted, fromOn, reformatted}
 use Rattle.model.proofs.claim.Mirrors.{stateFor, Mirrors}
 use Rattle.model.proofs.claim.Change.{Partner, Keeps, Anew, mirrors-at, sound-anew, mirrors-changed}

@@ -24,7 +24,7 @@ use Rattle.track.specs.declared.state.State.{State}
 use Rattle.track.specs.declared.state.State.the-variants.{Sound, Moved, Taken}
 use Rattle.track.specs.Image.{withTrack}
 use Rattle.formatter.specs.Format.{formatted, soundFrom}
-use Rattle.contents.proofs.Formats.{formatted-most}
+use Rattle.formatter.proofs.Laws.{formatted-most}
 use Rattle.model.specs.declared.block.Block.{Block}
 use Rattle.model.specs.Commands.{plainByte, plainFill, fillOf, madeAt, driveFormatted, assigned}
 

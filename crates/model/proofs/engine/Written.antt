@@ -14,11 +14,11 @@ use Rattle.geometry.specs.declared.config.Setting.the-variants.{Valid}
 use Rattle.geometry.specs.Params.{Within, trackCount, trackSize, imageLength, trackOf, addressCount, OnDrive, further, next}
 use Rattle.geometry.proofs.Addresses.{track-in, same-track, further-next}
 use Rattle.track.specs.Image.{trackBytes, withTrack, slotId, slotData, withData}
-use Rattle.track.specs.Find.{Sector, Slot, Fault}
-use Rattle.track.proofs.Images.{length-track, track-same, track-other, length-with-data, data-other}
-use Rattle.track.proofs.SameIds.{SameIds, found-same, data-keeps}
+use Rattle.track.specs.declared.find.Sector.{Sector}
+use Rattle.track.specs.declared.find.Sector.the-variants.{Slot, Fault}
+use Rattle.track.proofs.Laws.{length-track, track-same, track-other, length-with-data, data-other, SameIds, found-same, data-keeps}
 use Rattle.sectors.specs.Transfer.{Transfer, ended, writeSlot, onward, found, writing}
-use Rattle.sectors.proofs.Founds.{found-slot}
+use Rattle.sectors.proofs.Laws.{found-slot}
 use Rattle.model.proofs.engine.Outside.{Outside, outside-self, outside-then, track-outside}
 
 -- ---- What n sectors written from address a on leave

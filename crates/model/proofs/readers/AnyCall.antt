@@ -16,10 +16,11 @@ use Rattle.geometry.specs.declared.params.Params.{Params}
 use Rattle.geometry.specs.declared.config.Setting.the-variants.{Valid}
 use Rattle.geometry.specs.Params.{trackCount, further}
 use Rattle.geometry.specs.Medium.{mediumOf}
-use Rattle.track.specs.Find.{Slot, holds}
+use Rattle.track.specs.declared.find.Sector.the-variants.{Slot}
+use Rattle.track.specs.Find.{holds}
 use Rattle.track.specs.Image.{trackBytes, slotId, slotData}
 use Rattle.sectors.specs.Transfer.{begun, found}
-use Rattle.sectors.proofs.Founds.{found-first}
+use Rattle.sectors.proofs.Laws.{found-first}
 use Rattle.model.specs.declared.block.Block.{Block}
 use Rattle.model.specs.declared.table.Command.{Command}
 use Rattle.model.specs.declared.table.Command.the-variants.{Free, OnDisk}

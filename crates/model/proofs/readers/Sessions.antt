@@ -22,7 +22,8 @@ use Rattle.geometry.specs.Params.{trackOf, sectorOf}
 use Rattle.geometry.specs.Medium.{mediumOf, isFloppy, isIn, rangesOf}
 use Rattle.geometry.specs.Config.{sizeFor, fittedTo, fieldsIn, settingBy, settingOf, isValid, labelSetting}
 use Rattle.track.specs.Image.{trackBytes, slotData}
-use Rattle.track.specs.Find.{Slot, sectorFound}
+use Rattle.track.specs.declared.find.Sector.the-variants.{Slot}
+use Rattle.track.specs.Find.{sectorFound}
 use Rattle.sectors.specs.Transfer.{found}
 use Rattle.contents.specs.Content.{Bytes, contentIn, contentOf}
 use Rattle.model.specs.Block.{blockOf, countOf, fromBuffer}

@@ -17,7 +17,7 @@ use Rattle.geometry.specs.Medium.{mediumOf}
 use Rattle.track.specs.Image.{Fits}
 use Rattle.sectors.specs.Transfer.{begun}
 use Rattle.contents.specs.Content.{Bytes, contentOf}
-use Rattle.contents.proofs.Terms.{Given}
+use Rattle.contents.proofs.Laws.{Given}
 use Rattle.contents.proofs.Laws
 use Rattle.model.specs.declared.block.Block.{Block}
 use Rattle.model.specs.declared.table.Command.{Command}

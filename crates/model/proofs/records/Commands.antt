@@ -29,8 +29,7 @@ use Rattle.track.specs.Image.{Fits}
 use Rattle.track.specs.Pair.{stateOf}
 use Rattle.sectors.specs.Transfer.{begun, writing}
 use Rattle.contents.specs.Content.{Bytes, contentOf}
-use Rattle.contents.proofs.Terms.{Given, Makes, NotTaken}
-use Rattle.contents.proofs.Laws.{writing-all, writing-given, writing-elsewhere}
+use Rattle.contents.proofs.Laws.{Given, ForTracks, NotTaken, writing-all, writing-given, writing-elsewhere}
 use Rattle.contents.proofs.Laws.{format-track-elsewhere, format-bad-track-elsewhere, format-drive-elsewhere, assign-elsewhere}
 use Rattle.model.specs.declared.block.Block.{Block}
 use Rattle.model.specs.declared.record.Drive.{Drive}
@@ -93,13 +92,13 @@ module _ (p : Params) (image : List ℕ) (f : Fits p image) (b : Block) (buffer 
   abbrev fill : List ℕ
   fill = fillOf b p buffer
 
-  makes : (l : List ℕ) → length l ≤ p .size → Makes p map l
+  makes : (l : List ℕ) → length l ≤ p .size → ForTracks p map l
   makes l h = record { slots = layout-length (p .sectors) (b .extra) (omega (arith, f .within .sectors-some)); most = h }
 
-  plain-makes : Makes p map plain
+  plain-makes : ForTracks p map plain
   plain-makes = makes plain (plain-most (mediumOf (b .drive)) p)
 
-  fill-makes : Makes p map fill
+  fill-makes : ForTracks p map fill
   fill-makes = makes fill (fill-most b p buffer)
 
   abbrev Same : List ℕ → Type 0

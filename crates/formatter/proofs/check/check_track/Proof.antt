@@ -1,7 +1,7 @@
 use Prim.Native.Nat.{_<_}
 use native.Mathlib.Omega.{arith}
 use Rattle.geometry.proofs.Sizes.{count-most}
-use Rattle.track.proofs.Finds.{where-in}
+use Rattle.track.proofs.Laws.{where-in}
 use Rattle.formatter.proofs.IdChecks.{check-off, check-well, check-ill, home-partner, home-sector}
 use borrow.Author.Needs.{needs}
 use Rattle.formatter.proofs.check.check_track.Statement.{statement}

@@ -5,7 +5,8 @@ use native.Mathlib.Omega.{arith}
 use Prim.Native.Nat.{_-_}
 use Rattle.geometry.specs.Params.{trackCount}
 use Rattle.track.specs.State.{partnerOf}
-use Rattle.formatter.proofs.Sounds.{next-in, next-less, Remade, remade-none, remade-more, remade-all}
+use Rattle.geometry.proofs.Sizes.{next-in, next-less}
+use Rattle.formatter.proofs.Sounds.{Remade, remade-none, remade-more, remade-all}
 use Rattle.formatter.proofs.format.format_from.Statement.{statement}
 use Rattle.formatter.proofs.format.format_from.Tie as tie
 

@@ -24,24 +24,18 @@ shared-slice-read-t12 c = search needs
 shared-slice-read-t14 : tie.Need-shared-slice-read-t14
 shared-slice-read-t14 c = search needs
 
-shared-slice-read-two-bytes-3 : tie.Need-shared-slice-read-two-bytes-3
-shared-slice-read-two-bytes-3 c = search needs
+shared-slice-read-of-bytes : tie.Need-shared-slice-read-of-bytes
+shared-slice-read-of-bytes c = search needs
 
-shared-slice-read-two-bytes-4 : tie.Need-shared-slice-read-two-bytes-4
-shared-slice-read-two-bytes-4 c = search needs
+shared-slice-read-of-bytes-2 : tie.Need-shared-slice-read-of-bytes-2
+shared-slice-read-of-bytes-2 c = search needs
 
-two-bytes-requires-2 : tie.Need-two-bytes-requires-2
-two-bytes-requires-2 c κs = search needs
-
-cast-numbered : tie.Need-cast-numbered
-cast-numbered c = search needs
-
-numbered-requires : tie.Need-numbered-requires
-numbered-requires c κs = search needs
+of-bytes-requires : tie.Need-of-bytes-requires
+of-bytes-requires c κs = search needs
 
 returns : tie.Need-returns
 unfolding idIn
-returns c = rw (c .before .before .before .before .before .before .before .two-bytes .ensures, c .numbered .ensures, c .before .two-bytes2 .ensures)
+returns c = rw (c .before .before .before .before .before .before .two-bytes .ensures, c .of-bytes .ensures)
 
 pub read-id-spec : {M : Type 1} → statement M
 read-id-spec =
@@ -54,9 +48,7 @@ read-id-spec =
     shared-slice-read-t10
     shared-slice-read-t12
     shared-slice-read-t14
-    shared-slice-read-two-bytes-3
-    shared-slice-read-two-bytes-4
-    two-bytes-requires-2
-    cast-numbered
-    numbered-requires
+    shared-slice-read-of-bytes
+    shared-slice-read-of-bytes-2
+    of-bytes-requires
     returns)

@@ -6,14 +6,14 @@ use Rattle.track.proofs.state.partner_of.Tie as tie
 enum-told : tie.Need-enum-told
 enum-told c = search needs
 
-numbered-requires : tie.Need-numbered-requires
-numbered-requires c κs = search needs
+first-requires : tie.Need-first-requires
+first-requires c κs = search needs
 
 enum-told-2 : tie.Need-enum-told-2
 enum-told-2 c = search needs
 
-numbered-requires-2 : tie.Need-numbered-requires-2
-numbered-requires-2 c κs = search needs
+first-requires-2 : tie.Need-first-requires-2
+first-requires-2 c κs = search needs
 
 enum-known-state : tie.Need-enum-known-state
 enum-known-state c = search needs
@@ -23,11 +23,11 @@ enum-known-state-2 c = search needs
 
 returns : tie.Need-returns
 unfolding partnerOf
-returns c = rw (c .before .enum-told .given .1) (c .numbered .ensures)
+returns c = rw (c .before .enum-told .given .1) (c .first .ensures)
 
 returns-2 : tie.Need-returns-2
 unfolding partnerOf
-returns-2 c = rw (c .before .enum-told2 .given .1) (c .numbered2 .ensures)
+returns-2 c = rw (c .before .enum-told2 .given .1) (c .first2 .ensures)
 
 returns-3 : tie.Need-returns-3
 unfolding partnerOf
@@ -42,9 +42,9 @@ partner-of-spec =
     tie.close
     (tie.spec
     enum-told
-    numbered-requires
+    first-requires
     enum-told-2
-    numbered-requires-2
+    first-requires-2
     enum-known-state
     enum-known-state-2
     returns

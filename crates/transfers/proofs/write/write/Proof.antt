@@ -2,7 +2,7 @@ use Prim.Native.Nat.{_≤_, _<_}
 use native.Mathlib.Nat.{le-trans}
 use native.Mathlib.Omega.{arith}
 use Rattle.geometry.proofs.Sizes.{sectors-most}
-use Rattle.sectors.proofs.WriteLoops.{written-most}
+use Rattle.sectors.proofs.Laws.{written-most}
 use Rattle.transfers.proofs.Finishes.{count-most, room-all, room-done}
 use Rattle.transfers.proofs.WriteEnds.{write-code, write-leaves}
 use borrow.Author.Needs.{needs}
