@@ -85,122 +85,122 @@ begun =
 pub well-done : List Line
 well-done =
     all (
-      -- 00, 01, 0Bh: checks only
-      tried (plain 0x00 0 0 good) clear (both 1 2)
-      ∷ tried (plain 0x01 0 0 good) clear (both 1 2)
-      ∷ tried (plain 0x0B 95 0 good) clear (both 1 2)
-      -- 03 hands over the sense and keeps it
-      ∷ tried (plain 0x03 0 0 (says 0 0 0 4 kept)) kept (both 1 2)
-      -- 10h hands over the buffer
-      ∷ tried (plain 0x10 0 0 (says 0 0 0 512 (both 1 2))) clear (both 1 2)
-      -- 11h, the stored configuration
-      ∷ tried (sent (six 0x11 0 0 0 0 0) (config 3) good) clear (both 1 2)
-      -- 0Fh takes the buffer's bytes
-      ∷ tried (sent (six 0x0F 0 0 0 0 0) (both 3 4) good) clear (both 3 4)
-      ∷ []
+    -- 00, 01, 0Bh: checks only
+    tried (plain 0x00 0 0 good) clear (both 1 2)
+    ∷ tried (plain 0x01 0 0 good) clear (both 1 2)
+    ∷ tried (plain 0x0B 95 0 good) clear (both 1 2)
+    -- 03 hands over the sense and keeps it
+    ∷ tried (plain 0x03 0 0 (says 0 0 0 4 kept)) kept (both 1 2)
+    -- 10h hands over the buffer
+    ∷ tried (plain 0x10 0 0 (says 0 0 0 512 (both 1 2))) clear (both 1 2)
+    -- 11h, the stored configuration
+    ∷ tried (sent (six 0x11 0 0 0 0 0) (config 3) good) clear (both 1 2)
+    -- 0Fh takes the buffer's bytes
+    ∷ tried (sent (six 0x0F 0 0 0 0 0) (both 3 4) good) clear (both 3 4)
+    ∷ []
     )
 
 -- ---- 05, 06, 07 in the middle of a track; 0Eh; 04 from the middle of track 1 on
 pub tracks-made : List Line
 tracks-made =
     all (
-      tried (plain 0x05 37 1 good) clear (both 1 2)
-      ∷ tried (plain 0x06 37 3 good) clear (both 1 2)
-      ∷ tried (plain 0x05 37 3 good) clear (both 1 2)
-      ∷ tried (plain 0x07 70 2 good) clear (both 1 2)
-      ∷ tried (plain 0x06 70 2 good) clear (both 1 2)
-      ∷ tried (sent (six 0x0E 0 0 37 5 0) (0 ∷ 0 ∷ 70 ∷ []) good) clear (both 1 2)
-      ∷ tried (plain 0x05 37 5 good) clear (both 1 2)
-      ∷ tried (plain 0x04 40 7 good) clear (both 1 2)
-      ∷ tried (plain 0x05 70 7 good) clear (both 1 2)
-      ∷ []
+    tried (plain 0x05 37 1 good) clear (both 1 2)
+    ∷ tried (plain 0x06 37 3 good) clear (both 1 2)
+    ∷ tried (plain 0x05 37 3 good) clear (both 1 2)
+    ∷ tried (plain 0x07 70 2 good) clear (both 1 2)
+    ∷ tried (plain 0x06 70 2 good) clear (both 1 2)
+    ∷ tried (sent (six 0x0E 0 0 37 5 0) (0 ∷ 0 ∷ 70 ∷ []) good) clear (both 1 2)
+    ∷ tried (plain 0x05 37 5 good) clear (both 1 2)
+    ∷ tried (plain 0x04 40 7 good) clear (both 1 2)
+    ∷ tried (plain 0x05 70 7 good) clear (both 1 2)
+    ∷ []
     )
 
 -- ---- Read and Write: the last sector done is at the buffer's front, the rest of the buffer stays; a byte too many is not looked at
 pub moved-bytes : List Line
 moved-bytes =
     all (
-      tried (sent (six 0x0A 0 0 31 3 0) (both 5 6 ++ replicate 257 7) (says 0 0 3 0 [])) clear (both 7 2)
-      ∷ tried (plain 0x08 31 1 (says 0 0 1 256 (replicate 256 5))) clear (both 5 2)
-      ∷ tried (plain 0x08 31 2 (says 0 0 2 512 (both 5 6))) clear (both 6 2)
-      ∷ []
+    tried (sent (six 0x0A 0 0 31 3 0) (both 5 6 ++ replicate 257 7) (says 0 0 3 0 [])) clear (both 7 2)
+    ∷ tried (plain 0x08 31 1 (says 0 0 1 256 (replicate 256 5))) clear (both 5 2)
+    ∷ tried (plain 0x08 31 2 (says 0 0 2 512 (both 5 6))) clear (both 6 2)
+    ∷ []
     )
 
 -- ---- Track 2 is bad: the sectors before it are done, and the last of them is in the buffer; where none is done, the buffer stays
 pub cut-short : List Line
 cut-short =
     all (
-      (plain 0x07 64 1 good ∷ [])
-      ∷ tried (plain 0x08 62 4 (says 0 2 2 512 (both 0x6C 0x6C))) (four 0x99 0 0 64) (both 0x6C 2)
-      ∷ tried (sent (six 0x0A 0 0 62 4 0) (both 8 9 ++ both 10 11) (says 0 2 2 0 [])) (four 0x99 0 0 64) (both 9 2)
-      ∷ tried (plain 0x08 62 2 (says 0 0 2 512 (both 8 9))) clear (both 9 2)
-      ∷ tried (plain 0x08 70 1 bad) (four 0x99 0 0 70) (both 9 2)
-      ∷ tried (sent (six 0x0A 0 0 70 1 0) (replicate 256 12) bad) (four 0x99 0 0 70) (both 9 2)
-      ∷ []
+    (plain 0x07 64 1 good ∷ [])
+    ∷ tried (plain 0x08 62 4 (says 0 2 2 512 (both 0x6C 0x6C))) (four 0x99 0 0 64) (both 0x6C 2)
+    ∷ tried (sent (six 0x0A 0 0 62 4 0) (both 8 9 ++ both 10 11) (says 0 2 2 0 [])) (four 0x99 0 0 64) (both 9 2)
+    ∷ tried (plain 0x08 62 2 (says 0 0 2 512 (both 8 9))) clear (both 9 2)
+    ∷ tried (plain 0x08 70 1 bad) (four 0x99 0 0 70) (both 9 2)
+    ∷ tried (sent (six 0x0A 0 0 70 1 0) (replicate 256 12) bad) (four 0x99 0 0 70) (both 9 2)
+    ∷ []
     )
 
 -- ---- A code of the command's own checks: it is in the sense with its address, and all else stays
 pub at-fault : List Line
 at-fault =
     all (
-      -- track 2 is bad; another interleave than track 1's; too many tracks
-      (plain 0x07 64 1 good ∷ [])
-      ∷ tried (plain 0x05 70 1 bad) (four 0x99 0 0 70) (both 1 2)
-      ∷ tried (sent (six 0x0E 0 0 37 1 0) (0 ∷ 0 ∷ 70 ∷ []) bad) (four 0x9F 0 0 70) (both 1 2)
-      ∷ tried (plain 0x05 37 6 bad) (four 0x9A 0 0 37) (both 1 2)
-      ∷ tried (sent (six 0x11 0 0 0 0 0) (config 4) bad) (four 0x22 0 0 0) (both 1 2)
-      ∷ tried (plain 0x05 37 1 good) clear (both 1 2)
-      ∷ []
+    -- track 2 is bad; another interleave than track 1's; too many tracks
+    (plain 0x07 64 1 good ∷ [])
+    ∷ tried (plain 0x05 70 1 bad) (four 0x99 0 0 70) (both 1 2)
+    ∷ tried (sent (six 0x0E 0 0 37 1 0) (0 ∷ 0 ∷ 70 ∷ []) bad) (four 0x9F 0 0 70) (both 1 2)
+    ∷ tried (plain 0x05 37 6 bad) (four 0x9A 0 0 37) (both 1 2)
+    ∷ tried (sent (six 0x11 0 0 0 0 0) (config 4) bad) (four 0x22 0 0 0) (both 1 2)
+    ∷ tried (plain 0x05 37 1 good) clear (both 1 2)
+    ∷ []
     )
 
 -- ---- Track 1 is moved to 2: both are asked in their middles
 pub in-pairs : List Line
 in-pairs =
     all (
-      (sent (six 0x0E 0 0 37 5 0) (0 ∷ 0 ∷ 70 ∷ []) good ∷ [])
-      ∷ tried (plain 0x05 37 6 bad) (four 0x9A 0 0 37) (both 1 2)
-      ∷ tried (plain 0x05 70 5 bad) (four 0x9C 0 0 70) (both 1 2)
-      ∷ tried (plain 0x06 37 5 bad) (four 0x9D 0 0 37) (both 1 2)
-      ∷ tried (plain 0x07 37 5 bad) (four 0x9D 0 0 37) (both 1 2)
-      ∷ tried (plain 0x06 70 5 bad) (four 0x9C 0 0 70) (both 1 2)
-      ∷ tried (plain 0x07 70 5 bad) (four 0x9C 0 0 70) (both 1 2)
-      ∷ tried (plain 0x04 70 5 bad) (four 0x9D 0 0 70) (both 1 2)
-      ∷ tried (sent (six 0x0E 0 0 5 1 0) (0 ∷ 0 ∷ 37 ∷ []) bad) (four 0x9F 0 0 37) (both 1 2)
-      ∷ tried (plain 0x08 70 1 bad) (four 0x9C 0 0 70) (both 1 2)
-      ∷ tried (plain 0x05 37 5 good) clear (both 1 2)
-      ∷ []
+    (sent (six 0x0E 0 0 37 5 0) (0 ∷ 0 ∷ 70 ∷ []) good ∷ [])
+    ∷ tried (plain 0x05 37 6 bad) (four 0x9A 0 0 37) (both 1 2)
+    ∷ tried (plain 0x05 70 5 bad) (four 0x9C 0 0 70) (both 1 2)
+    ∷ tried (plain 0x06 37 5 bad) (four 0x9D 0 0 37) (both 1 2)
+    ∷ tried (plain 0x07 37 5 bad) (four 0x9D 0 0 37) (both 1 2)
+    ∷ tried (plain 0x06 70 5 bad) (four 0x9C 0 0 70) (both 1 2)
+    ∷ tried (plain 0x07 70 5 bad) (four 0x9C 0 0 70) (both 1 2)
+    ∷ tried (plain 0x04 70 5 bad) (four 0x9D 0 0 70) (both 1 2)
+    ∷ tried (sent (six 0x0E 0 0 5 1 0) (0 ∷ 0 ∷ 37 ∷ []) bad) (four 0x9F 0 0 37) (both 1 2)
+    ∷ tried (plain 0x08 70 1 bad) (four 0x9C 0 0 70) (both 1 2)
+    ∷ tried (plain 0x05 37 5 good) clear (both 1 2)
+    ∷ []
     )
 
 -- ---- A code of the order of checks, in commands with and without data
 pub in-order : List Line
 in-order =
     all (
-      tried (plain 0x02 0 0 bad) (four 0x20 0 0 0) (both 1 2)
-      ∷ tried (sent (six 0x00 0x80 0 0 0 0) [] bad) (four 0x22 0 0 0) (both 1 2)
-      ∷ tried (sent (six 0x03 0x80 0 0 0 0) [] bad) (four 0x22 0 0 0) (both 1 2)
-      ∷ tried (sent (six 0x0F 0x80 0 0 0 0) (both 3 4) bad) (four 0x22 0 0 0) (both 1 2)
-      ∷ tried (sent (six 0x10 0x80 0 0 0 0) [] bad) (four 0x22 0 0 0) (both 1 2)
-      ∷ tried (plain 0x08 95 2 bad) (four 0xA1 0 0 95) (both 1 2)
-      ∷ tried (sent (six 0x0A 0 0 95 2 0) (both 3 4) bad) (four 0xA1 0 0 95) (both 1 2)
-      ∷ []
+    tried (plain 0x02 0 0 bad) (four 0x20 0 0 0) (both 1 2)
+    ∷ tried (sent (six 0x00 0x80 0 0 0 0) [] bad) (four 0x22 0 0 0) (both 1 2)
+    ∷ tried (sent (six 0x03 0x80 0 0 0 0) [] bad) (four 0x22 0 0 0) (both 1 2)
+    ∷ tried (sent (six 0x0F 0x80 0 0 0 0) (both 3 4) bad) (four 0x22 0 0 0) (both 1 2)
+    ∷ tried (sent (six 0x10 0x80 0 0 0 0) [] bad) (four 0x22 0 0 0) (both 1 2)
+    ∷ tried (plain 0x08 95 2 bad) (four 0xA1 0 0 95) (both 1 2)
+    ∷ tried (sent (six 0x0A 0 0 95 2 0) (both 3 4) bad) (four 0xA1 0 0 95) (both 1 2)
+    ∷ []
     )
 
 -- ---- A refusal: number 1, 2 or 3, and nothing changes
 pub turned-away : List Line
 turned-away =
     all (
-      tried (sent (0 ∷ 0 ∷ 0 ∷ 0 ∷ 0 ∷ []) [] (says 1 0 0 0 [])) kept (both 1 2)
-      ∷ tried (sent (0 ∷ 0 ∷ 0 ∷ 0 ∷ 0 ∷ 0 ∷ 0 ∷ []) [] (says 1 0 0 0 [])) kept (both 1 2)
-      ∷ tried (sent (six 0x0A 0 0 31 2 0) (replicate 511 3) (says 2 0 0 0 [])) kept (both 1 2)
-      ∷ tried (sent (six 0x0E 0 0 5 1 0) (0 ∷ 0 ∷ []) (says 2 0 0 0 [])) kept (both 1 2)
-      ∷ tried (sent (six 0x0F 0 0 0 0 0) (replicate 511 3) (says 2 0 0 0 [])) kept (both 1 2)
-      ∷ tried (sent (six 0x11 0 0 0 0 0) (0 ∷ 1 ∷ 1 ∷ 0 ∷ 1 ∷ 0 ∷ 0 ∷ 0 ∷ 0 ∷ []) (says 2 0 0 0 [])) kept (both 1 2)
-      ∷ tried (within 3 (six 0x03 0 0 0 0 0) [] (says 3 0 0 0 [])) kept (both 1 2)
-      ∷ tried (within 511 (six 0x08 0 0 31 2 0) [] (says 3 0 0 0 [])) kept (both 1 2)
-      ∷ tried (within 511 (six 0x10 0 0 0 0 0) [] (says 3 0 0 0 [])) kept (both 1 2)
-      -- drive 0 is as it was
-      ∷ tried (plain 0x08 31 1 (says 0 0 1 256 (replicate 256 0x6C))) clear (both 0x6C 2)
-      ∷ []
+    tried (sent (0 ∷ 0 ∷ 0 ∷ 0 ∷ 0 ∷ []) [] (says 1 0 0 0 [])) kept (both 1 2)
+    ∷ tried (sent (0 ∷ 0 ∷ 0 ∷ 0 ∷ 0 ∷ 0 ∷ 0 ∷ []) [] (says 1 0 0 0 [])) kept (both 1 2)
+    ∷ tried (sent (six 0x0A 0 0 31 2 0) (replicate 511 3) (says 2 0 0 0 [])) kept (both 1 2)
+    ∷ tried (sent (six 0x0E 0 0 5 1 0) (0 ∷ 0 ∷ []) (says 2 0 0 0 [])) kept (both 1 2)
+    ∷ tried (sent (six 0x0F 0 0 0 0 0) (replicate 511 3) (says 2 0 0 0 [])) kept (both 1 2)
+    ∷ tried (sent (six 0x11 0 0 0 0 0) (0 ∷ 1 ∷ 1 ∷ 0 ∷ 1 ∷ 0 ∷ 0 ∷ 0 ∷ 0 ∷ []) (says 2 0 0 0 [])) kept (both 1 2)
+    ∷ tried (within 3 (six 0x03 0 0 0 0 0) [] (says 3 0 0 0 [])) kept (both 1 2)
+    ∷ tried (within 511 (six 0x08 0 0 31 2 0) [] (says 3 0 0 0 [])) kept (both 1 2)
+    ∷ tried (within 511 (six 0x10 0 0 0 0 0) [] (says 3 0 0 0 [])) kept (both 1 2)
+    -- drive 0 is as it was
+    ∷ tried (plain 0x08 31 1 (says 0 0 1 256 (replicate 256 0x6C))) clear (both 0x6C 2)
+    ∷ []
     )
 
 -- ---- Reset: the buffer and all sixteen sense bytes are zero, whatever they were; the labels' configurations are in force

@@ -188,4 +188,3 @@ module _ (given : List ℕ) where
       let drive = blockOf block .drive in
       pick-both (λ (r : Result). r .images ≡ images) (eqb (length block) 6) _ _
       (left-kept drive _ c area images (initialize-obeyed (blockOf block) (length area) (driveAt c drive) (c .buffer) (imageOf drive images) is)) refl
-
