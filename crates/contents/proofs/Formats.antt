@@ -6,14 +6,13 @@ use mathlib.Core.List.{List}
 use Prim.Native.Nat.{ℕ, zero, suc, _+_, _-_, _*_, _≤_, _<_}
 use native.Mathlib.Omega.{arith}
 use native.Mathlib.Decide.{decLt}
-use native.Mathlib.Nat.{mul-le-mul-left, zero-mul}
+use native.Mathlib.Nat.{zero-mul}
 use lib.ListN.{length, getD}
 use lib.Dec.{eqb, ltb}
-use borrow.Author.Tests.{eq-eqb, ne-eqb, eqb-true, ltb-true, lt-ltb, le-ltb}
-use Rattle.base.specs.Part.{part, splice, rows}
+use borrow.Author.Tests.{eq-eqb, ne-eqb, eqb-true, ltb-true, lt-ltb}
+use Rattle.base.specs.Part.{part, splice}
 use Rattle.base.proofs.Bools.{both-true, not-true, not-false}
-use Rattle.base.proofs.Firsts.{none-some}
-use Rattle.base.proofs.Parts.{length-splice, part-same, part-after, part-part, other-cell, cell-in, row-front}
+use Rattle.base.proofs.Parts.{length-splice, part-same, part-after, part-part, other-cell, cell-in}
 use Rattle.geometry.specs.declared.params.Params.{Params}
 use Rattle.geometry.specs.declared.params.Lba.{Lba}
 use Rattle.geometry.specs.declared.params.Track.{Track}
@@ -21,12 +20,11 @@ use Rattle.geometry.specs.Params.{trackCount, slotSize, trackSize, trackStart, 
 use Rattle.geometry.proofs.Addresses.{same-track}
 use Rattle.track.specs.declared.state.State.{State}
 use Rattle.track.specs.declared.state.State.the-variants.{Sound, Bad, Moved, Taken}
-use Rattle.track.specs.Id.{idBytes, idIn, idFor}
+use Rattle.track.specs.Id.{idIn, idFor}
 use Rattle.track.specs.Image.{Fits, trackBytes, withTrack, slotId, firstId}
 use Rattle.track.specs.Find.{takenBy}
-use Rattle.track.specs.Pair.{stateOf, splits, pairSplit}
-use Rattle.track.proofs.Laws.{id-back, sector-for, taken-in, track-room, below-other, state-taken, taken-made, taken-one, sound-taken, bad-taken}
-use Rattle.track.proofs.Laws.{moved-taken}
+use Rattle.track.specs.Pair.{pairSplit}
+use Rattle.track.proofs.Laws.{id-back, track-room, taken-in, state-taken, taken-made, taken-one, sound-taken, bad-taken, moved-taken, whole-pairs}
 use Rattle.formatter.specs.Format.{formatted, soundFrom}
 use Rattle.formatter.proofs.Laws.{formatted-most, formatted-least, formatted-front}
 use Rattle.contents.specs.Content.{contentOf}
@@ -194,16 +192,6 @@ before-ge s v e = by (decLt (v .0) (s .0))
     by : Dec (v .0 < s .0) → s .0 ≤ v .0
     by (yes l) = absurd (true≢false (sym (lt-ltb _ _ l) ∙ e))
     by (no l) = omega arith
-
--- no pair is split: no track from s on is taken by one before it
-whole-pairs : (p : Params) (s : Track) (image : List ℕ) → pairSplit p s image ≡ false → (t u : Track) → t .0 < s .0 → s .0 ≤ u .0
-    → takenBy p t u (firstId p u image) ≡ true → ⊥
-unfolding pairSplit splits
-whole-pairs p s image whole t u ht hu e =
-    let none : splits s u (stateOf p u image) ≡ false = none-some _ _ whole (u .0) (taken-in p t u _ e) in
-    let is : splits s u (stateOf p u image) ≡ ltb (t .0) (s .0) =
-    ap (splits s u) (state-taken p t u image e) ∙ sym (below-other s u t _ _ refl refl (le-ltb (u .0) (s .0) hu)) in
-    true≢false (sym (lt-ltb _ _ ht) ∙ sym is ∙ none)
 
 -- n tracks from t on, made sound: those before stay, and slot 0 of each of them says so
 record Swept (p : Params) (map : List ℕ) (n : ℕ) (t : Track) (before after : List ℕ) : Type 0 where

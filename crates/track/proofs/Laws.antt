@@ -22,14 +22,15 @@ pub use Rattle.track.proofs.Finds.{where-in}
 pub use Rattle.track.proofs.Finds.{where-has}
 -- the two told apart
 pub use Rattle.track.proofs.Finds.{off-on, on-same}
--- a partner past the last track is not taken; one that is taken is a track of the drive, and taken for the format commands too
-pub use Rattle.track.proofs.Takens.{taken-past, taken-in, state-taken}
+-- a partner past the last track is not taken; one that is taken is a track of the drive, with A1h, its own cylinder and head, flag 3
+-- and the other's number, and the format commands see it as taken too
+pub use Rattle.track.proofs.Takens.{taken-past, taken-in, taken-tests, taken-flag, state-taken}
 -- a track formatted is taken only where it was formatted as taken
 pub use Rattle.track.proofs.Takens.{taken-made}
 -- states told apart
 pub use Rattle.track.proofs.Takens.{taken-one, sound-taken, bad-taken, moved-taken}
--- where exactly one of two tracks is below a third
-pub use Rattle.track.proofs.Pairs.{below-other}
+-- where no pair is split by track s, no track from s on is taken by one before it
+pub use Rattle.track.proofs.Pairs.{whole-pairs}
 -- ---- Finding: the slot that is used for a sector
 -- it holds the sector, no slot before it does, and one is used wherever there is one; a slot holds one sector
 pub use Rattle.track.proofs.Used.{used-holds, used-first, unused, holds-one}

@@ -1,16 +1,20 @@
--- Laws of pairs: which of two tracks is below a third, and the loop over the tracks.
-use mathlib.Core.Path.{_≡_, refl, sym, _∙_}
-use mathlib.Core.Bool.{Bool, true, false, not, _||_}
+-- Laws of pairs: which of two tracks is below a third, the loop over the tracks, and what it means that no pair is split.
+use mathlib.Core.Path.{_≡_, refl, sym, ap, _∙_}
+use mathlib.Core.Bool.{Bool, true, false, not, _||_, true≢false}
 use mathlib.Core.List.{List}
 use Prim.Native.Nat.{ℕ, _≤_, _<_}
 use native.Mathlib.Numerals.{add-one}
 use lib.Dec.{ltb}
-use Rattle.base.proofs.Firsts.{Sought, sought-none, sought-hit, sought-more, sought-all, some-hit, some-none}
+use borrow.Author.Tests.{lt-ltb, le-ltb}
+use Rattle.base.proofs.Firsts.{Sought, sought-none, sought-hit, sought-more, sought-all, some-hit, some-none, none-some}
 use Rattle.geometry.specs.declared.params.Params.{Params}
 use Rattle.geometry.specs.declared.params.Track.{Track}
 use Rattle.geometry.specs.Params.{trackCount, track, nextTrack}
 use Rattle.track.specs.declared.state.State.{State}
+use Rattle.track.specs.Image.{firstId}
+use Rattle.track.specs.Find.{takenBy}
 use Rattle.track.specs.Pair.{stateOf, oneBelow, splits, pairSplit}
+use Rattle.track.proofs.Takens.{taken-in, state-taken}
 
 or-false : (b : Bool) → b ≡ (b || false)
 or-false true = refl
@@ -51,3 +55,13 @@ module _ (p : Params) (s : Track) (image : List ℕ) where
     pub whole-all : trackCount p ≤ t .0 → false ≡ pairSplit p s image
     unfolding pairSplit
     whole-all h = sym (some-none _ _ (sought-all _ _ (t .0) w h))
+
+-- ---- where no pair is split, no track from s on is taken by one before it
+pub whole-pairs : (p : Params) (s : Track) (image : List ℕ) → pairSplit p s image ≡ false → (t u : Track) → t .0 < s .0 → s .0 ≤ u .0
+    → takenBy p t u (firstId p u image) ≡ true → ⊥
+unfolding pairSplit splits
+whole-pairs p s image whole t u ht hu e =
+    let none : splits s u (stateOf p u image) ≡ false = none-some _ _ whole (u .0) (taken-in p t u _ e) in
+    let is : splits s u (stateOf p u image) ≡ ltb (t .0) (s .0) =
+    ap (splits s u) (state-taken p t u image e) ∙ sym (below-other s u t _ _ refl refl (le-ltb (u .0) (s .0) hu)) in
+    true≢false (sym (lt-ltb _ _ ht) ∙ sym is ∙ none)

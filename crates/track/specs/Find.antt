@@ -19,8 +19,7 @@ use Rattle.track.specs.Image.{trackBytes, slotId, firstId}
 
 -- Track u is t's partner: a track of this drive whose slot 0 has A1h, its own cylinder and head, flag 3 and partner t.
 unfoldable pub takenBy : Params → (t u : Track) → Id → Bool
-takenBy p t u id =
-    ltb (u .0) (trackCount p) && eqb (id .mark) 0xA1 && ownId p u id && eqb (id .flag) 3 && eqb (id .partner .0) (t .0)
+takenBy p t u id = ltb (u .0) (trackCount p) && eqb (id .mark) 0xA1 && ownId p u id && eqb (id .flag) 3 && eqb (id .partner .0) (t .0)
 
 -- By t's slot 0: byte 0 not A1h, 12h; cylinder or head not t's own, 15h; flag above 3, 10h; flag 1, 19h; flag 3, 1Ch.
 -- Flag 2: the search goes on in the partner if that is taken by t, else 1Eh.

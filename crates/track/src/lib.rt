@@ -1,4 +1,4 @@
-// Tracks of an image: formatted, checked, and their sectors found. The library below the commands.
+// Tracks of an image: their IDs and states, pairs, and where their sectors are found.
 pub mod find;
 pub mod id;
 pub mod pair;
