@@ -8,6 +8,7 @@ use native.Mathlib.Nat.{suc-mul}
 use native.Mathlib.Numerals.{add-one}
 use lib.ListN.{take, drop}
 use lib.Dec.{eqb}
+use borrow.Author.Tests.{ne-eqb}
 use Rattle.base.specs.Pick.{pick}
 use Rattle.base.specs.Part.{part}
 use Rattle.base.proofs.Parts.{part-lent, cell-in}
@@ -27,6 +28,12 @@ pub where-from : (p : Params) (t : Track) (image : List ℕ) (id : Id) (own take
     → taken ≡ takenBy p t (id .partner) (firstId p (id .partner) image) → whereBy t id own taken ≡ whereOf p t image
 unfolding whereOf
 where-from p t image id own taken ei eo et = rw (eo, et, ei)
+
+-- without flag 2 the partner is not asked for
+pub where-unmoved : (p : Params) (t : Track) (image : List ℕ) (id : Id) (own : Bool) → id ≡ firstId p t image → own ≡ ownId p t id
+    → (id .flag ≡ 2 → ⊥) → whereBy t id own false ≡ whereOf p t image
+unfolding whereOf whereBy pick
+where-unmoved p t image id own ei eo ne = rw (← ei, eo, ne-eqb (id .flag) 2 ne)
 
 pub off-on : (code : ℕ) (u : Track) → Off code ≡ On u → ⊥
 off-on code u e = let z : _≡_ {A = ℕ} 0 1 = cc in omega arith

@@ -86,13 +86,16 @@ fn where_by(t: Track, id: Id, own: bool, taken: bool) -> Where
     Where::On(t)
 }
 
-// The track whose slots are searched for t's sectors.
+// The track whose slots are searched for t's sectors. The partner is asked for only where there is one.
 pub fn where_is(image: &[u8], p: Params, t: Track) -> Where
     requires { ⌜ Fits p (now image) × (t .0 < trackCount p) ⌝ }
     ensures { λ r. ⌜ r ≡ whereOf p t (now (image .entry)) ⌝ }
 {
     let id = first_id(image, p, t);
     let own = is_own(p, t, id);
+    if id.flag != 2 {
+        return where_by(t, id, own, false);
+    }
     let partner = id.partner;
     let taken = is_taken_by(image, p, t, partner);
     where_by(t, id, own, taken)
