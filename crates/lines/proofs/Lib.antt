@@ -1,2 +1,4 @@
 pub mod AnswerTexts
-pub mod Frames
+pub mod Answers
+pub mod Talks
+pub mod Programs
