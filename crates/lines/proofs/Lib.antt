@@ -2,3 +2,5 @@ pub mod AnswerTexts
 pub mod Answers
 pub mod Talks
 pub mod Programs
+pub mod Areas
+pub mod Standing
