@@ -63,6 +63,12 @@ unfolding acceptedAll
 all-length x [] = refl
 all-length x (c ∷ text) = all-length (accepted x c) text ∙ accepted-length x c
 
+pub all-room : (x : Reading) (text : List ℕ) → x .line .count ≤ length (x .bytes)
+    → acceptedAll x text .line .count ≤ length (acceptedAll x text .bytes)
+unfolding acceptedAll
+all-room x [] h = h
+all-room x (c ∷ text) h = all-room (accepted x c) text (accepted-room x c h)
+
 pub all-append : (x : Reading) (text more : List ℕ) → acceptedAll x (text ++ more) ≡ acceptedAll (acceptedAll x text) more
 unfolding acceptedAll
 all-append x [] more = refl

@@ -4,3 +4,4 @@ pub mod Talks
 pub mod Programs
 pub mod Areas
 pub mod Standing
+pub mod Hearings

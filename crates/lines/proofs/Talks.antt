@@ -58,11 +58,11 @@ unfolding talked spokenBehind
 talked-feed x c input e = ap (λ (h : Spoken). spokenBehind (h .text) (talked (h .talk) input)) (heard-feed x c e)
 
 -- ---- up to the first line feed
-feed-here : (c : ℕ) (input : List ℕ) → eqb c 0x0A ≡ true → feedAt (c ∷ input) ≡ 0
+pub feed-here : (c : ℕ) (input : List ℕ) → eqb c 0x0A ≡ true → feedAt (c ∷ input) ≡ 0
 unfolding feedAt
 feed-here c input e = pick-true _ _ _ e
 
-feed-later : (c : ℕ) (input : List ℕ) → eqb c 0x0A ≡ false → feedAt (c ∷ input) ≡ suc (feedAt input)
+pub feed-later : (c : ℕ) (input : List ℕ) → eqb c 0x0A ≡ false → feedAt (c ∷ input) ≡ suc (feedAt input)
 unfolding feedAt
 feed-later c input e = pick-false _ _ _ e
 

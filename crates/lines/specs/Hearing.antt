@@ -23,6 +23,10 @@ Speaks spoken heard before text bytes area images =
     × (heard .length ≡ length (spoken .text))
     × (text ≡ splice 0 (spoken .text) before)
 
+-- The longest answer: number, status, message and 1,024 bytes of data, two digits a byte, and a line feed.
+abbrev pub textLength : ℕ
+textLength = 2055
+
 -- The slices before the first character: zeros, as many as the program has of each.
 abbrev pub AtFirst : (bytes area : List ℕ) → (images : List (List ℕ)) → Type 0
 AtFirst bytes area images = (bytes ≡ replicate 1030 0) × (area ≡ replicate 1024 0) × (images ≡ firstImages)
