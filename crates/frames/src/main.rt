@@ -69,33 +69,24 @@ fn feed(
         (imagesOf (now (image0 .exit)) (now (image1 .exit)) (now (image2 .exit)) (now (image3 .exit)))) ⌝ }
 {
     let end = input.len();
-    let mut session = first;
+    let mut here = first;
     let mut at = 0;
     while at < end {
-        let heard = hear(
-            session,
-            &input[at..end],
-            bytes,
-            area,
-            image0,
-            image1,
-            image2,
-            image3,
-            text,
-        );
-        session = heard.session;
-        let n = heard.length;
+        let new = &input[at..end];
+        let got = hear(here, new, bytes, area, image0, image1, image2, image3, text);
+        here = got.session;
+        let n = got.length;
         if !say(text, n) {
             return Went {
-                session: session,
+                session: here,
                 going: false,
             };
         }
-        let taken = heard.taken;
+        let taken = got.taken;
         at += taken;
     }
     Went {
-        session: session,
+        session: here,
         going: true,
     }
 }

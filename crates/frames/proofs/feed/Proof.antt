@@ -10,26 +10,26 @@ use Rattle.frames.proofs.feed.Statement.{statement}
 use Rattle.frames.proofs.feed.Tie as tie
 
 abbrev Inv-loop : tie.InvT-loop
-Inv-loop input bytes₀ area₀ image0₀ image1₀ image2₀ image3₀ text₀ end session₀ at₀ bytes area image0 image1 image2 image3 text session at =
+Inv-loop input bytes₀ area₀ image0₀ image1₀ image2₀ image3₀ text₀ end here₀ at₀ bytes area image0 image1 image2 image3 text here at =
     (at ≤ length input)
     × Going (lengths bytes₀ area₀ image0₀ image1₀ image2₀ image3₀ text₀) (lengths bytes area image0 image1 image2 image3 text)
-    (talkNow session bytes area (imagesOf image0 image1 image2 image3))
+    (talkNow here bytes area (imagesOf image0 image1 image2 image3))
 
 abbrev μ-loop : tie.MeasureT-loop
-μ-loop input bytes₀ area₀ image0₀ image1₀ image2₀ image3₀ text₀ end session₀ at₀ bytes area image0 image1 image2 image3 text session at =
+μ-loop input bytes₀ area₀ image0₀ image1₀ image2₀ image3₀ text₀ end here₀ at₀ bytes area image0 image1 image2 image3 text here at =
     length input - at
 
 loop-holds : tie.Need-loop-holds Inv-loop μ-loop
 loop-holds c = (omega arith, going-first (c .before .before .before .before .before .before .before .before .pre .0) (c .before .before .before .before .before .before .before .before .pre .1))
 
-sub-hear : tie.Need-sub-hear Inv-loop μ-loop
-sub-hear c = search needs
+sub-new : tie.Need-sub-new Inv-loop μ-loop
+sub-new c = search needs
 
-part-hear-start : tie.Need-part-hear-start Inv-loop μ-loop
-part-hear-start c = search needs
+part-new-start : tie.Need-part-new-start Inv-loop μ-loop
+part-new-start c = search needs
 
-part-hear-end : tie.Need-part-hear-end Inv-loop μ-loop
-part-hear-end c = search needs
+part-new-end : tie.Need-part-new-end Inv-loop μ-loop
+part-new-end c = search needs
 
 hear-requires : tie.Need-hear-requires Inv-loop μ-loop
 hear-requires c κs = let g = c .before .before .before .before .before .before .before .before .before .loop .inv .1 in (g .talking, g .room)
@@ -113,9 +113,9 @@ feed-spec =
     Inv-loop
     μ-loop
     loop-holds
-    sub-hear
-    part-hear-start
-    part-hear-end
+    sub-new
+    part-new-start
+    part-new-end
     hear-requires
     say-requires
     same-length
