@@ -1,11 +1,10 @@
 -- What holds between two calls: no slice has changed its length, the text has room for any answer, and the slices lent are where an
 -- input from the start has left the program.
 use Prim.Native.Nat.{ℕ, _+_, _-_, _≤_, _<_}
-use mathlib.Core.Path.{_≡_, refl, ap, _∙_}
+use mathlib.Core.Path.{_≡_, refl, _∙_}
 use mathlib.Core.List.{List, []}
 use native.Mathlib.Omega.{arith}
 use lib.ListN.{length, take, drop, replicate, length-take, length-drop, length-replicate}
-use Rattle.base.specs.Part.{splice}
 use Rattle.model.specs.Engine.{imagesOf}
 use Rattle.lines.specs.declared.talk.Heard.{Heard}
 use Rattle.lines.specs.Talk.{Talk, Spoken, talked}

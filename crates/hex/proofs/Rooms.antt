@@ -1,6 +1,6 @@
 -- What holds of a line after each character: its bytes stay in their slice, and the digit that waits is one.
 use Prim.Native.Nat.{ℕ, suc, _+_, _*_, _≤_, _<_}
-use mathlib.Core.Path.{_≡_, refl, sym, ap, _∙_}
+use mathlib.Core.Path.{_≡_, refl, ap, _∙_}
 use mathlib.Core.Bool.{Bool, true, false}
 use mathlib.Core.List.{List, [], _∷_, _++_}
 use native.Mathlib.Omega.{arith}
@@ -10,7 +10,6 @@ use lib.Seq.{drop-cons}
 use lib.Dec.{ltb, eqb}
 use borrow.Author.Tests.{ltb-true, eqb-false}
 use Rattle.base.specs.Pick.{pick}
-use Rattle.hex.specs.declared.line.Line.{Line}
 use Rattle.hex.specs.Hex.{valueOf}
 use Rattle.hex.specs.Line.{Reading, lineNow, spoiltLine, spoilt, takenIn, accepted, acceptedAll}
 use Rattle.hex.proofs.Digits.{value-small}

@@ -19,20 +19,7 @@ use Rattle.model.specs.Engine.{execute, resetOf}
 use Rattle.engine.specs.Results.{resultNow}
 use Rattle.hex.specs.declared.line.Line.{Line}
 use Rattle.hex.specs.Line.{lineNow, wholeOf}
-use Rattle.lines.specs.Said.{
-  answerText,
-  resetText,
-  badText,
-  Said,
-  saidNow,
-  Says,
-  resultSaid,
-  frameSaid,
-  resetSaid,
-  badSaid,
-  isReset,
-  lineSaid,
-}
+use Rattle.lines.specs.Said.{answerText, resetText, badText, Said, Says, resultSaid, frameSaid, resetSaid, badSaid, isReset, lineSaid}
 use Rattle.lines.specs.declared.answer.Told.{Told}
 use Rattle.lines.proofs.AnswerTexts.{told-length, length-reset, front-taken}
 

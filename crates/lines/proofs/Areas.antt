@@ -1,13 +1,12 @@
 -- A call hands over no more than its data area holds, so that the area keeps its length.
-use Prim.Native.Nat.{ℕ, _+_, _*_, _≤_, _<_}
-use mathlib.Core.Path.{_≡_, refl, sym, ap, subst, _∙_}
+use Prim.Native.Nat.{ℕ, _*_, _≤_}
+use mathlib.Core.Path.{_≡_, refl, ap, subst, _∙_}
 use mathlib.Core.List.{List, []}
 use native.Mathlib.Omega.{arith}
 use native.Mathlib.Nat.{mul-le-mul-right}
 use lib.ListN.{length}
 use lib.Dec.{eqb}
 use Rattle.base.specs.Pick.{pick}
-use Rattle.base.specs.Part.{splice}
 use Rattle.base.proofs.Parts.{length-splice}
 use Rattle.base.proofs.Decide.{pick-both}
 use Rattle.geometry.specs.declared.params.Params.{Params}
@@ -17,7 +16,7 @@ use Rattle.geometry.specs.Medium.{mediumOf}
 use Rattle.geometry.proofs.Settings.{setting-within}
 use Rattle.track.specs.Image.{Fits}
 use Rattle.sectors.specs.Transfer.{begun, reading}
-use Rattle.sectors.proofs.Readings.{Handed, reading-handed}
+use Rattle.sectors.proofs.Readings.{reading-handed}
 use Rattle.model.specs.declared.block.Block.{Block}
 use Rattle.model.specs.declared.record.Drive.{Drive}
 use Rattle.model.specs.declared.record.Controller.{Controller}
@@ -53,8 +52,11 @@ module _ (b : Block) (given : List ℕ) (area : ℕ) (entry : Drive) (buffer ima
 
   module _ (passed : judge b view (length given) area ≡ Passed) where
     -- the area has as many bytes as the row says
-    enough : (command : Command) → rowFor (b .opcode) .command ≡ command → bytesOf (rowFor (opcodeFor command) .gives) b (view .setting) ≤ area
-    enough command is = subst (λ (r : TableRow). bytesOf (r .gives) b (view .setting) ≤ area) (row command is) (area-enough b view (length given) area passed)
+    enough : (command : Command) → rowFor (b .opcode) .command ≡ command
+        → bytesOf (rowFor (opcodeFor command) .gives) b (view .setting) ≤ area
+    enough command is =
+        subst (λ (r : TableRow). bytesOf (r .gives) b (view .setting) ≤ area) (row command is)
+        (area-enough b view (length given) area passed)
 
     after-passed : after ≡ carryOut b (view .setting) given entry buffer image (rowFor (b .opcode) .command)
     unfolding obey unless
@@ -66,7 +68,8 @@ module _ (b : Block) (given : List ℕ) (area : ℕ) (entry : Drive) (buffer ima
       sectors-fit : (p : Params) → view .setting ≡ Valid p → length (reading p (countOf b) (b .address) (begun image) .handed) ≤ area
       unfolding viewOf rowFor opcodeFor isAmong checkNumber bytesOf sizeIn
       sectors-fit p e =
-          let w = setting-within (mediumOf (b .drive)) (entry .config) (length image) p (setting-known (mediumOf (b .drive)) entry (length image) p e) in
+          let known = setting-known (mediumOf (b .drive)) entry (length image) p e in
+          let w = setting-within (mediumOf (b .drive)) (entry .config) (length image) p known in
           let fits : Fits p image = record { within = w .0; long = w .1 } in
           let clear : Cleared (rowFor (opcodeFor (OnDisk (SectorWork Read)))) b p (view .pending) (length given) =
           subst (λ (r : TableRow). Cleared r b p (view .pending) (length given)) (row _ is) (cleared b view (length given) area passed p e) in

@@ -1,5 +1,5 @@
 -- What the functions that take the input leave: the characters up to a line feed are of the line under way, then it is answered.
-use Prim.Native.Nat.{ℕ, suc, _+_, _-_, _≤_, _<_, min}
+use Prim.Native.Nat.{ℕ, suc, _+_, _-_, _≤_, _<_}
 use mathlib.Core.Path.{_≡_, refl, sym, ap, subst, _∙_}
 use mathlib.Core.Bool.{Bool, true, false, or-true}
 use mathlib.Core.List.{List, [], _∷_}
@@ -8,13 +8,11 @@ use native.Mathlib.Nat.{sub-zero}
 use native.Mathlib.Numerals.{add-one}
 use lib.ListN.{length, take, drop, getD, drop-of-length-le}
 use lib.Seq.{take-all, drop-cons}
-use lib.Dec.{eqb, ltb}
+use lib.Dec.{ltb}
 use borrow.Author.Tests.{eq-eqb, ne-eqb}
-use Rattle.base.specs.Pick.{pick}
 use Rattle.base.specs.Part.{splice}
 use Rattle.base.proofs.Decide.{pick-true, pick-false}
 use Rattle.base.proofs.Parts.{splice-none}
-use Rattle.model.specs.declared.record.Controller.{Controller}
 use Rattle.model.specs.Engine.{fresh}
 use Rattle.hex.specs.declared.line.Line.{Line}
 use Rattle.hex.specs.Line.{Reading, lineNow, started, acceptedAll, wholeOf}
@@ -23,8 +21,8 @@ use Rattle.lines.specs.declared.answer.Told.{Told}
 use Rattle.lines.specs.declared.talk.Session.{Session}
 use Rattle.lines.specs.declared.talk.Heard.{Heard}
 use Rattle.lines.specs.Said.{Says, lineSaid}
-use Rattle.lines.specs.Talk.{Talk, Spoken, answered, talked, isBegun, closed}
-use Rattle.lines.specs.Frames.{firstImages, firstTalk, Talking}
+use Rattle.lines.specs.Talk.{Talk, answered, talked, isBegun, closed}
+use Rattle.lines.specs.Frames.{firstTalk, Talking}
 use Rattle.lines.specs.Hearing.{talkNow, Speaks, AtFirst, feedAt, lineEnd}
 use Rattle.lines.proofs.Talks.{withReading, quiet, feed-here, feed-later, feed-within, heard-open, heard-line}
 use Rattle.lines.proofs.Standing.{stands}
@@ -64,8 +62,10 @@ module _ (input : List ℕ) where
           record { most = omega arith; rest = rw (add-one i) (omega (arith, s .rest)) }
 
 -- ---- a line that has ended
-pub line-answered : (session : Session) (bytes area area′ text text′ : List ℕ) (images images′ : List (List ℕ)) (told : Told) (line : Line) (taken : ℕ)
-    → Says (lineSaid (session .controller) (wholeOf (lineNow (session .line) bytes)) area images) told text text′ area′ images′ → line ≡ started
+pub line-answered : (session : Session) (bytes area area′ text text′ : List ℕ) (images images′ : List (List ℕ)) (told : Told)
+    (line : Line) (taken : ℕ)
+    → Says (lineSaid (session .controller) (wholeOf (lineNow (session .line) bytes)) area images) told text text′ area′ images′
+    → line ≡ started
     → Speaks (answered (talkNow session bytes area images))
     (record { session = record { controller = told .controller; line = line }; taken = taken; length = told .length })
     text text′ bytes area′ images′
@@ -136,13 +136,20 @@ module _ (line : Line) where
   begun-count e h = rw (e, h)
 
 module _ (session : Session) (bytes area text : List ℕ) (images : List (List ℕ)) (begun : Bool) (is : begun ≡ isBegun (session .line)) where
-  pub close-line : begun ≡ true → (r : Heard) (text′ area′ : List ℕ) (images′ : List (List ℕ))
-      → Speaks (answered (talkNow session bytes area images)) r text text′ bytes area′ images′
-      → Speaks (closed (talkNow session bytes area images)) r text text′ bytes area′ images′
-  unfolding closed
-  close-line e r text′ area′ images′ speaks = rw (pick-true (isBegun (session .line)) (answered (talkNow session bytes area images)) (quiet (talkNow session bytes area images)) (sym is ∙ e)) speaks
+  abbrev last : Talk
+  last = talkNow session bytes area images
 
-  pub close-quiet : begun ≡ false
-      → Speaks (closed (talkNow session bytes area images)) (record { session = session; taken = 0; length = 0 }) text text bytes area images
+  closed-line : begun ≡ true → closed last ≡ answered last
   unfolding closed
-  close-quiet e = rw (pick-false (isBegun (session .line)) (answered (talkNow session bytes area images)) (quiet (talkNow session bytes area images)) (sym is ∙ e)) (refl, refl, quiet-said text)
+  closed-line e = pick-true _ _ _ (sym is ∙ e)
+
+  closed-quiet : begun ≡ false → closed last ≡ quiet last
+  unfolding closed
+  closed-quiet e = pick-false _ _ _ (sym is ∙ e)
+
+  pub close-line : begun ≡ true → (r : Heard) (text′ area′ : List ℕ) (images′ : List (List ℕ))
+      → Speaks (answered last) r text text′ bytes area′ images′ → Speaks (closed last) r text text′ bytes area′ images′
+  close-line e r text′ area′ images′ speaks = rw (closed-line e) speaks
+
+  pub close-quiet : begun ≡ false → Speaks (closed last) (record { session = session; taken = 0; length = 0 }) text text bytes area images
+  close-quiet e = rw (closed-quiet e) (refl, refl, quiet-said text)

@@ -1,12 +1,12 @@
 -- The program frames, whole: however its input is cut into pieces, what it says is what the lines of the input are answered by, one
 -- after the other, a last line without a line feed among them.
-use Prim.Native.Nat.{ℕ, suc, _+_, _≤_, _<_}
+use Prim.Native.Nat.{ℕ, _+_}
 use mathlib.Core.Path.{_≡_, refl, sym, ap, _∙_}
 use mathlib.Core.Bool.{Bool, true, false}
 use mathlib.Core.List.{List, [], _∷_, _++_, append-assoc, append-nil}
 use native.Mathlib.Omega.{arith}
 use lib.ListN.{length, replicate, length-replicate}
-use lib.Dec.{eqb, ltb}
+use lib.Dec.{eqb}
 use borrow.Author.Tests.{lt-ltb}
 use Rattle.base.specs.Pick.{pick}
 use Rattle.base.proofs.Decide.{pick-true, pick-false}
@@ -15,19 +15,7 @@ use Rattle.hex.proofs.Lines.{line-read}
 use Rattle.hex.proofs.Rooms.{accepted-by, all-length, all-append}
 use Rattle.lines.specs.Said.{Said, lineSaid}
 use Rattle.lines.specs.Talk.{Talk, Spoken, answered, talked, isBegun, closed}
-use Rattle.lines.specs.Frames.{
-  withFirst,
-  linesOf,
-  saidBehind,
-  linesSaid,
-  framesSaid,
-  firstTalk,
-  spokenBehind,
-  piecesTalked,
-  joined,
-  endSaid,
-  piecesSaid,
-}
+use Rattle.lines.specs.Frames.{withFirst, linesOf, saidBehind, linesSaid, framesSaid, firstTalk, spokenBehind, joined, endSaid, piecesSaid}
 use Rattle.lines.proofs.Talks.{withReading, quiet, talked-pieces, talked-plain, talked-feed}
 
 -- ---- a line of which a character is read has begun

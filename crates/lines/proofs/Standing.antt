@@ -1,12 +1,12 @@
 -- What holds wherever the program stands: the line under way fits its slice, and the data area has its 1,024 bytes. For the latter the
 -- controller has to be whole (what Request Sense and Read Buffer hand over is of it), which the claim about every list knows.
 use Prim.Native.Nat.{ℕ, zero, suc, _+_, _*_, _≤_, _<_}
-use mathlib.Core.Path.{_≡_, refl, sym, ap, subst, _∙_}
+use mathlib.Core.Path.{_≡_, refl, sym, ap, _∙_}
 use mathlib.Core.Bool.{Bool, true, false}
 use mathlib.Core.Option.{Option, none, some}
 use mathlib.Core.List.{List, [], _∷_, _++_}
 use native.Mathlib.Omega.{arith}
-use lib.ListN.{length, take, drop, replicate, length-replicate, length-append}
+use lib.ListN.{length, take, drop, length-replicate}
 use lib.Dec.{eqb}
 use Rattle.base.specs.Pick.{pick}
 use Rattle.base.specs.Part.{part}
@@ -17,20 +17,20 @@ use Rattle.geometry.specs.Medium.{mediumOf, isIn, rangesOf}
 use Rattle.geometry.specs.Config.{fieldsIn, settingBy, settingOf, labelSetting}
 use Rattle.model.specs.declared.record.Controller.{Controller}
 use Rattle.model.specs.Block.{blockOf}
-use Rattle.model.specs.Engine.{imageOf, fresh}
+use Rattle.model.specs.Engine.{imageOf}
 use Rattle.model.specs.Machine.{Machine}
-use Rattle.model.specs.Claim.{System, Reset, Command, called, replied, beginMachine}
+use Rattle.model.specs.Claim.{System, Reset, Command, called, replied}
 use Rattle.model.proofs.engine.Assembled.{drive-below}
 use Rattle.model.proofs.claim.Agrees.{Agrees}
 use Rattle.model.proofs.claim.Restarted.{agree-fresh}
 use Rattle.model.proofs.claim.Called.{call-answered}
-use Rattle.hex.specs.Line.{Reading, lineNow, started, accepted, acceptedAll, wholeOf}
+use Rattle.hex.specs.Line.{wholeOf}
 use Rattle.hex.proofs.Rooms.{accepted-high, accepted-room}
 use Rattle.lines.specs.Said.{Said, lineSaid, resetSaid, badSaid, frameSaid, resultSaid}
 use Rattle.lines.specs.Talk.{Talk, Spoken, answered, heard, talked}
 use Rattle.lines.specs.Frames.{firstImages, firstTalk, spokenBehind, Talking}
 use Rattle.lines.proofs.Areas.{area-keeps}
-use Rattle.lines.proofs.Talks.{withReading, heard-feed, heard-plain, talked-cut}
+use Rattle.lines.proofs.Talks.{heard-feed, heard-plain, talked-cut}
 
 -- ---- a line's answer leaves the area's length and a whole controller
 pub record Whole (c : Controller) (area : List ℕ) (images : List (List ℕ)) : Type 0 where

@@ -1,14 +1,13 @@
 -- Laws of the input taken a character at a time: it may be cut anywhere, and up to its first line feed it is one line.
-use Prim.Native.Nat.{ℕ, suc, _≤_, _<_, min}
+use Prim.Native.Nat.{ℕ, suc, _≤_, _<_}
 use mathlib.Core.Path.{_≡_, refl, sym, ap, _∙_}
 use mathlib.Core.Bool.{Bool, true, false}
 use mathlib.Core.List.{List, [], _∷_, _++_, append-assoc, append-nil}
 use native.Mathlib.Omega.{arith}
 use lib.ListN.{length, take}
 use lib.Dec.{eqb}
-use Rattle.base.specs.Pick.{pick}
 use Rattle.base.proofs.Decide.{pick-true, pick-false}
-use Rattle.hex.specs.Line.{Reading, lineNow, started, accepted, acceptedAll}
+use Rattle.hex.specs.Line.{Reading, accepted, acceptedAll}
 use Rattle.lines.specs.Talk.{Talk, Spoken, answered, heard, talked}
 use Rattle.lines.specs.Frames.{spokenBehind, piecesTalked, joined}
 use Rattle.lines.specs.Hearing.{feedAt}
