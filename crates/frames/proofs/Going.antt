@@ -1,17 +1,17 @@
--- What holds between two characters of the input: no slice has changed its length, the text has room for any answer, and the line under way fits.
-use mathlib.Core.Bool.{Bool, true, false, _||_, true≢false}
-use Prim.Native.Nat.{ℕ, _+_, _*_, _≤_, _<_}
-use mathlib.Core.Path.{_≡_, refl, _∙_, ap}
-use mathlib.Core.List.{List}
+-- What holds between two calls: no slice has changed its length, the text has room for any answer, and the slices lent are where an
+-- input from the start has left the program.
+use Prim.Native.Nat.{ℕ, _+_, _-_, _≤_, _<_}
+use mathlib.Core.Path.{_≡_, refl, _∙_}
+use mathlib.Core.List.{List, []}
 use native.Mathlib.Omega.{arith}
-use lib.ListN.{length}
-use Rattle.hex.specs.declared.line.Line.{Line}
-use Rattle.hex.specs.Line.{lineNow, accepted, started}
-use Rattle.hex.proofs.Rooms.{accepted-room}
-
--- The line under way fits the slice of its bytes.
-abbrev pub LineFits : Line → (bytes : ℕ) → Type 0
-LineFits line bytes = (line .high < 16) × (line .count ≤ bytes)
+use lib.ListN.{length, take, drop, replicate, length-take, length-drop, length-replicate}
+use Rattle.model.specs.Engine.{imagesOf}
+use Rattle.lines.specs.declared.talk.Heard.{Heard}
+use Rattle.lines.specs.Talk.{Talk, Spoken, talked}
+use Rattle.lines.specs.Frames.{firstImages, Talking}
+use Rattle.lines.specs.Hearing.{textLength, Speaks, talkNow, AtFirst, lineEnd}
+use Rattle.lines.proofs.AnswerTexts.{front-fits}
+use Rattle.lines.proofs.Standing.{talking-on}
 
 -- The lengths of the slices that a session is lent.
 pub record Lengths : Type 0 where
@@ -34,34 +34,39 @@ lengths bytes area image0 image1 image2 image3 text = record {
   text = length text;
 }
 
-pub record Going (first now : Lengths) (line : Line) : Type 0 where
+pub record Going (first now : Lengths) (x : Talk) : Type 0 where
   pub same : now ≡ first
-  pub text-room : 7 + 2 * now .area ≤ now .text
-  pub line-fits : LineFits line (now .bytes)
+  pub room : textLength ≤ now .text
+  pub talking : Talking x
 
-pub going-first : {now : Lengths} {line : Line} → (7 + 2 * now .area ≤ now .text) × (line .high < 16) × (line .count ≤ now .bytes)
-    → Going now now line
-going-first pre = record { same = refl; text-room = pre .0; line-fits = (pre .1, pre .2) }
+pub going-first : {now : Lengths} {x : Talk} → Talking x → textLength ≤ now .text → Going now now x
+going-first t h = record { same = refl; room = h; talking = t }
 
--- Whatever keeps the lengths and leaves a line that fits.
-pub going-on : {first now now′ : Lengths} {line line′ : Line} → Going first now line → now′ ≡ now → LineFits line′ (now′ .bytes)
-    → Going first now′ line′
-going-on g e fits = record { same = e ∙ g .same; text-room = rw e (g .text-room); line-fits = fits }
+-- Whatever keeps the lengths and leaves the program where it stands.
+pub going-on : {first now : Lengths} {x : Talk} (now′ : Lengths) (y : Talk) → Going first now x → now′ ≡ now → Talking y → Going first now′ y
+going-on now′ y g e t = record { same = e ∙ g .same; room = rw e (g .room); talking = t }
 
--- A line that has not begun fits any slice.
-pub started-fits : {bytes : ℕ} {line : Line} → line ≡ started → LineFits line bytes
-started-fits e = rw e (omega arith, omega arith)
+-- ---- what `hear` leaves
+pub heard-on : {x : Talk} (heard : Heard) (input before text bytes area : List ℕ) (images : List (List ℕ)) → Talking x
+    → Speaks (talked x input) heard before text bytes area images → Talking (talkNow (heard .session) bytes area images)
+heard-on heard input before text bytes area images t s = talking-on _ input t (s .0)
 
--- With one character more a line still fits.
-pub accepted-fits : (line r line′ : Line) (bytes b bytes′ : List ℕ) (c : ℕ) → line .count ≤ length bytes
-    → (lineNow r b ≡ accepted (lineNow line bytes) c) × (r .high < 16) → line′ ≡ r → bytes′ ≡ b → LineFits line′ (length bytes′)
-accepted-fits line r line′ bytes b bytes′ c h e l m =
-    let count : r .count ≡ accepted (lineNow line bytes) c .line .count = ap (λ x. x .line .count) (e .0) in
-    let long : length b ≡ length (accepted (lineNow line bytes) c .bytes) = ap (λ x. length (x .bytes)) (e .0) in
-    rw (l, m) (e .1, omega (arith, count, long, accepted-room (lineNow line bytes) c h))
+pub heard-fits : (spoken : Spoken) (heard : Heard) (before text bytes area : List ℕ) (images : List (List ℕ))
+    → Speaks spoken heard before text bytes area images → heard .length ≤ length text
+heard-fits spoken heard before text bytes area images s = front-fits (spoken .text) before text (heard .length) (s .1) (s .2)
 
--- where two tests fail, the third decides
-pub third : (a b x : Bool) → a ≡ false → b ≡ false → x ≡ (a || (b || x))
-third false false x ea eb = refl
-third false true x ea eb = absurd (true≢false eb)
-third true b x ea eb = absurd (true≢false ea)
+-- ---- a part of the input is taken up to the line's end: something of it, and no more than there is
+pub taken-part : (input : List ℕ) (at n : ℕ) → at < length input → n ≡ lineEnd (take (length input - at) (drop at input))
+    → (0 < n) × (at + n ≤ length input)
+unfolding lineEnd
+taken-part input at n h e =
+    let l : length (take (length input - at) (drop at input)) ≡ length input - at = rw (length-take, length-drop) (omega arith) in
+    (omega arith, omega arith)
+
+-- ---- the slices of `main`
+pub at-first : AtFirst (replicate 1030 0) (replicate 1024 0) (imagesOf (replicate 25360 0) (replicate 25360 0) [] [])
+unfolding firstImages
+at-first = (refl, refl, refl)
+
+pub text-enough : textLength ≤ length (replicate {A = ℕ} 2055 0)
+text-enough = omega (arith, length-replicate {A = ℕ} 2055 0)

@@ -1,53 +1,59 @@
-// Reads frames, one a line of hex digits, from standard input and prints an answer a line. Drives 0 and 1 are zero images of
-// 25,360 bytes, drives 2 and 3 empty ones; the data area has 1,024 bytes.
-use engine::reset::fresh;
-use hex::line::Line;
-use hex::line::accept;
-use hex::line::start;
-use lines::answer_line;
-use model::record::Controller;
-ghost use mathlib.Core.Path.{_≡_};
-ghost use mathlib.Core.Bool.{_||_};
-ghost use Prim.Native.Nat.{_+_, _*_, _≤_, _<_};
+// Reads frames, one a line of hex digits, from standard input and prints an answer a line. What is said is the library's
+// (lines::talk); here are the slices, `read` and `write`.
+use lines::AREA_LENGTH;
+use lines::IMAGE_LENGTH;
+use lines::LINE_LENGTH;
+use lines::TEXT_LENGTH;
+use lines::talk::Session;
+use lines::talk::begin;
+use lines::talk::close;
+use lines::talk::hear;
+ghost use Prim.Native.Nat.{_≤_};
 ghost use lib.ListN.{length};
-ghost use lib.Dec.{ltb};
+ghost use Rattle.model.specs.Engine.{imagesOf};
+ghost use Rattle.lines.specs.Frames.{Talking};
+ghost use Rattle.lines.specs.Hearing.{talkNow, textLength};
 
 const STDIN: i32 = 0;
 
 const STDOUT: i32 = 1;
 
-const LINE_FEED: u8 = 0x0A;
-
-// The controller, and what is read of the line under way.
-pub struct Session {
-    pub controller: Controller,
-    pub line: Line,
+// Where the program stands, and whether its answers still reach someone.
+pub struct Went {
+    pub session: Session,
+    pub going: bool,
 }
 
-// Answers a line that has ended.
-fn say(
-    c: Controller,
-    line: Line,
-    bytes: &[u8],
-    area: &mut [u8],
-    image0: &mut [u8],
-    image1: &mut [u8],
-    image2: &mut [u8],
-    image3: &mut [u8],
-    text: &mut [u8],
-) -> Controller
-    requires { ⌜ (7 + 2 * length (now area) ≤ length (now text)) × (line .count ≤ length (now bytes)) ⌝ }
+// What has come of the input; nothing at its end. A read that a signal has interrupted is tried again. One that fails otherwise
+// is named on standard error and ends the session as the input's end does; a program of Rattle has no exit status to say so.
+fn read_some(input: &mut [u8]) -> usize
+    ensures { λ r. ⌜ r ≤ length (now (input .exit)) ⌝ }
 {
-    let told = answer_line(c, line, bytes, area, image0, image1, image2, image3, text);
-    let controller = told.controller;
-    let end = told.length;
-    io::write_all(STDOUT, &text[0..end]);
-    controller
+    let mut turns = u64::MAX;
+    while 0 < turns {
+        let got = libc::read(STDIN, input);
+        if 0 <= got {
+            return io::count(got, input);
+        }
+        if os::errno() != libc::EINTR {
+            os::fail(b"read");
+            return 0;
+        }
+        turns -= 1;
+    }
+    0
 }
 
-// Takes in characters of the input, and answers each line that they end.
+// Writes the first n characters of the text; says whether that went well.
+fn say(text: &[u8], n: usize) -> bool
+    requires { ⌜ n ≤ length (now text) ⌝ }
+{
+    io::write_all(STDOUT, &text[0..n])
+}
+
+// Takes in what has come of the input, a line at a time, and writes what is said. A failed write ends the program.
 fn feed(
-    session: Session,
+    first: Session,
     input: &[u8],
     bytes: &mut [u8],
     area: &mut [u8],
@@ -56,57 +62,33 @@ fn feed(
     image2: &mut [u8],
     image3: &mut [u8],
     text: &mut [u8],
-) -> Session
-    requires { ⌜ (7 + 2 * length (now area) ≤ length (now text)) × (session .line .high < 16) × (session .line .count ≤ length (now bytes)) ⌝ }
-    ensures { λ r. ⌜ (r .line .high < 16) × (r .line .count ≤ length (now (bytes .exit))) ⌝ }
+) -> Went
+    requires { ⌜ Talking (talkNow first (now bytes) (now area) (imagesOf (now image0) (now image1) (now image2) (now image3))) ⌝ }
+    requires { ⌜ textLength ≤ length (now text) ⌝ }
+    ensures { λ r. ⌜ Talking (talkNow (r .session) (now (bytes .exit)) (now (area .exit))
+        (imagesOf (now (image0 .exit)) (now (image1 .exit)) (now (image2 .exit)) (now (image3 .exit)))) ⌝ }
 {
-    let mut controller = session.controller;
-    let mut line = session.line;
-    let mut i = 0;
-    while i < input.len() {
-        let c = input[i];
-        if c == LINE_FEED {
-            controller = say(
-                controller,
-                line,
-                bytes,
-                area,
-                image0,
-                image1,
-                image2,
-                image3,
-                text,
-            );
-            line = start();
-        } else {
-            line = accept(line, bytes, c);
+    let end = input.len();
+    let mut here = first;
+    let mut at = 0;
+    while at < end {
+        let new = &input[at..end];
+        let got = hear(here, new, bytes, area, image0, image1, image2, image3, text);
+        here = got.session;
+        let n = got.length;
+        if !say(text, n) {
+            return Went {
+                session: here,
+                going: false,
+            };
         }
-        i += 1;
+        let taken = got.taken;
+        at += taken;
     }
-    Session {
-        controller: controller,
-        line: line,
+    Went {
+        session: here,
+        going: true,
     }
-}
-
-// Whether any character of a line has been read.
-fn is_begun(line: Line) -> bool
-    ensures { λ r. ⌜ r ≡ (line .bad || (line .half || ltb 0 (line .count))) ⌝ }
-{
-    if line.bad {
-        return true;
-    }
-    if line.half {
-        return true;
-    }
-    0 < line.count
-}
-
-// What has come of the input; nothing at its end.
-fn read_some(input: &mut [u8]) -> usize
-    ensures { λ r. ⌜ r ≤ length (now (input .exit)) ⌝ }
-{
-    io::count(libc::read(STDIN, input), input)
 }
 
 // Answers line after line. A proved loop has to end, and nothing says that the input does: so it counts its turns down, from a
@@ -121,18 +103,23 @@ fn converse(
     image2: &mut [u8],
     image3: &mut [u8],
     text: &mut [u8],
-) -> Session
-    requires { ⌜ (7 + 2 * length (now area) ≤ length (now text)) × (first .line .high < 16) × (first .line .count ≤ length (now bytes)) ⌝ }
-    ensures { λ r. ⌜ (r .line .high < 16) × (r .line .count ≤ length (now (bytes .exit))) ⌝ }
+) -> Went
+    requires { ⌜ Talking (talkNow first (now bytes) (now area) (imagesOf (now image0) (now image1) (now image2) (now image3))) ⌝ }
+    requires { ⌜ textLength ≤ length (now text) ⌝ }
+    ensures { λ r. ⌜ Talking (talkNow (r .session) (now (bytes .exit)) (now (area .exit))
+        (imagesOf (now (image0 .exit)) (now (image1 .exit)) (now (image2 .exit)) (now (image3 .exit)))) ⌝ }
 {
     let mut session = first;
     let mut turns = u64::MAX;
     while 0 < turns {
         let n = read_some(input);
         if n == 0 {
-            return session;
+            return Went {
+                session: session,
+                going: true,
+            };
         }
-        session = feed(
+        let went = feed(
             session,
             &input[0..n],
             bytes,
@@ -143,24 +130,28 @@ fn converse(
             image3,
             text,
         );
+        session = went.session;
+        if !went.going {
+            return went;
+        }
         turns -= 1;
     }
-    session
+    Went {
+        session: session,
+        going: true,
+    }
 }
 
 fn main() {
-    let mut image0 = [0u8; 25360];
-    let mut image1 = [0u8; 25360];
+    let mut image0 = [0u8; IMAGE_LENGTH];
+    let mut image1 = [0u8; IMAGE_LENGTH];
     let mut image2 = [0u8; 0];
     let mut image3 = [0u8; 0];
-    let mut area = [0u8; 1024];
-    let mut bytes = [0u8; 1030];
-    let mut text = [0u8; 2055];
+    let mut area = [0u8; AREA_LENGTH];
+    let mut bytes = [0u8; LINE_LENGTH];
+    let mut text = [0u8; TEXT_LENGTH];
     let mut input = [0u8; 4096];
-    let first = Session {
-        controller: fresh(&image0, &image1, &image2, &image3),
-        line: start(),
-    };
+    let first = begin(&bytes, &area, &image0, &image1, &image2, &image3);
     let last = converse(
         first,
         &mut input,
@@ -172,13 +163,10 @@ fn main() {
         &mut image3,
         &mut text,
     );
-    let line = last.line;
-    let controller = last.controller;
-    // a last line without a line feed counts
-    if is_begun(line) {
-        say(
-            controller,
-            line,
+    let session = last.session;
+    if last.going {
+        let heard = close(
+            session,
             &bytes,
             &mut area,
             &mut image0,
@@ -187,5 +175,7 @@ fn main() {
             &mut image3,
             &mut text,
         );
+        let n = heard.length;
+        say(&text, n);
     }
 }

@@ -1,5 +1,4 @@
 pub mod Digits
-pub mod Undo
 pub mod Lines
 pub mod Texts
 pub mod Rooms

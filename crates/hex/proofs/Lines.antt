@@ -11,13 +11,12 @@ use native.Mathlib.Nat.{sub-zero}
 use native.Mathlib.Numerals.{add-one}
 use lib.ListN.{length, take, set, length-set}
 use lib.Seq.{take-suc-set, append-snoc}
-use borrow.Author.Tests.{le-leb, lt-leb, eq-eqb}
+use borrow.Author.Tests.{le-leb, lt-leb, eq-eqb, ne-eqb}
 use Rattle.base.specs.Pick.{pick}
 use Rattle.hex.specs.declared.line.Line.{Line}
 use Rattle.hex.specs.Hex.{valueOf, before, decoded}
 use Rattle.hex.specs.Line.{Reading, lineNow, started, spoiltLine, accepted, acceptedAll, wholeOf, within, lineOf}
 use Rattle.hex.proofs.Digits.{value-small}
-use Rattle.hex.proofs.Undo.{two-digits}
 use Rattle.hex.proofs.Characters.{taken-first, taken-full, taken-byte, accepted-bad, accepted-none, accepted-digit}
 
 -- whole bytes so far, and a first digit behind them
@@ -58,6 +57,12 @@ no-digit : (line : Line) (bytes : List ℕ) (c : ℕ) (text : List ℕ) → line
 no-digit line bytes c text e h = read-on _ _ c text (accepted-none line bytes c e h) ∙ spoilt-stays line bytes text
 
 -- ---- what is decoded
+-- two characters that are digits, and then the rest
+two-digits : (c d : ℕ) (text : List ℕ) → valueOf c < 16 → valueOf d < 16
+    → decoded (c ∷ d ∷ text) ≡ before (valueOf c * 16 + valueOf d) (decoded text)
+unfolding decoded pick
+two-digits c d text h k = rw (ne-eqb (valueOf c) 16 (λ e. omega arith), ne-eqb (valueOf d) 16 (λ e. omega arith))
+
 pair-none : (c d : ℕ) (text : List ℕ) → (valueOf c ≡ 16) ⊎ (valueOf d ≡ 16) → decoded (c ∷ d ∷ text) ≡ none
 unfolding decoded pick
 pair-none c d text (inl e) = rw (eq-eqb (valueOf c) 16 e)

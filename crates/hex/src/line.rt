@@ -2,7 +2,7 @@
 use crate::digit::value_of;
 ghost use mathlib.Core.Path.{_≡_};
 ghost use Prim.Native.Nat.{_<_};
-ghost use Rattle.hex.specs.Line.{started, spoiltLine, lineNow, takenIn, accepted};
+ghost use Rattle.hex.specs.Line.{started, spoiltLine, lineNow, takenIn, accepted, acceptedAll};
 
 // What is read of a line so far.
 pub struct Line {
@@ -75,4 +75,19 @@ pub fn accept(line: Line, bytes: &mut [u8], c: u8) -> Line
         return spoilt(line);
     }
     take_value(line, bytes, value)
+}
+
+// One character after the other.
+pub fn accept_all(first: Line, bytes: &mut [u8], text: &[u8]) -> Line
+    requires { ⌜ first .high < 16 ⌝ }
+    ensures { λ r. ⌜ (lineNow r (now (bytes .exit)) ≡ acceptedAll (lineNow first (now (bytes .entry))) (now (text .entry))) × (r .high < 16) ⌝ }
+{
+    let mut line = first;
+    let mut i = 0;
+    while i < text.len() {
+        let c = text[i];
+        line = accept(line, bytes, c);
+        i += 1;
+    }
+    line
 }

@@ -1,6 +1,6 @@
 -- Laws of the text that answers a line: its digits and its line feed, put one behind the other at the front.
 use Prim.Native.Nat.{ℕ, _+_, _*_, _≤_, _<_}
-use mathlib.Core.Path.{_≡_, refl, sym, _∙_}
+use mathlib.Core.Path.{_≡_, refl, sym, ap, _∙_}
 use mathlib.Core.List.{List, [], _∷_, _++_, append-assoc}
 use native.Mathlib.Omega.{arith}
 use native.Mathlib.Numerals.{add-one}
@@ -9,8 +9,9 @@ use lib.Seq.{take-at, take-append-seam, drop-append-add, drop-drop, set-split}
 use Rattle.base.specs.Part.{splice}
 use Rattle.base.proofs.Parts.{length-splice}
 use Rattle.model.specs.declared.record.Answer.{Answer}
+use Rattle.model.specs.Record.{bareAnswer}
 use Rattle.hex.specs.Hex.{encoded}
-use Rattle.lines.specs.Said.{answerText, badText}
+use Rattle.lines.specs.Said.{answerText, resetText, badText}
 
 -- ---- one text behind another
 front-more : (ys zs xs : List ℕ) → splice (length ys) zs (splice 0 ys xs) ≡ splice 0 (ys ++ zs) xs
@@ -45,6 +46,10 @@ length-answer answer handed =
     length-append (encoded (answer .number ∷ answer .status ∷ answer .message ∷ handed)) (0x0A ∷ [])
     ∙ omega (arith, length-encoded handed)
 
+pub length-reset : length resetText ≡ 7
+unfolding resetText
+length-reset = length-answer (bareAnswer 0) []
+
 -- ---- what `tell` writes
 module _ (answer : Answer) (handed text : List ℕ) (room : 7 + 2 * length handed ≤ length text) where
   abbrev head : List ℕ
@@ -76,17 +81,24 @@ module _ (answer : Answer) (handed text : List ℕ) (room : 7 + 2 * length hande
     tell-length = rw tell-written length-answered
 
   -- what its caller reads of it
-  pub told-text : (after : List ℕ) (n : ℕ) → n ≡ 7 + 2 * length handed → after ≡ splice 0 (answerText answer handed) text
-      → (n ≤ length after) × (take n after ≡ answerText answer handed)
-  told-text after n en e = (
-    rw e (omega (arith, length-answered)),
-    rw (e, en) (take-front (7 + 2 * length handed) (answerText answer handed) text (length-answer answer handed)),
-  )
+  pub told-length : (n : ℕ) → n ≡ 7 + 2 * length handed → n ≡ length (answerText answer handed)
+  told-length n e = e ∙ sym (length-answer answer handed)
 
 -- ---- FF and its line feed
-pub bad-written : (text : List ℕ) → 3 ≤ length text
-    → (3 ≤ length (set (set (set text 0 0x46) 1 0x46) 2 0x0A)) × (take 3 (set (set (set text 0 0x46) 1 0x46) 2 0x0A) ≡ badText)
+pub bad-written : (text : List ℕ) → 3 ≤ length text → set (set (set text 0 0x46) 1 0x46) 2 0x0A ≡ splice 0 badText text
+unfolding splice
 bad-written [] h = absurd (omega arith)
 bad-written (x ∷ []) h = absurd (omega arith)
 bad-written (x ∷ y ∷ []) h = absurd (omega arith)
-bad-written (x ∷ y ∷ z ∷ text) h = (h, refl)
+bad-written (x ∷ y ∷ z ∷ text) h = refl
+
+-- ---- a text that stands at the front
+module _ (said before text : List ℕ) (n : ℕ) (e : n ≡ length said) (is : text ≡ splice 0 said before) where
+  pub front-taken : take n text ≡ said
+  front-taken = rw is (take-front n said before (sym e))
+
+  pub front-fits : n ≤ length text
+  unfolding splice
+  front-fits =
+      let l : length text ≡ length said + length (drop (0 + length said) before) = ap length is ∙ length-append said (drop (0 + length said) before) in
+      omega arith

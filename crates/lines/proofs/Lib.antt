@@ -1,2 +1,7 @@
 pub mod AnswerTexts
-pub mod Frames
+pub mod Answers
+pub mod Talks
+pub mod Programs
+pub mod Areas
+pub mod Standing
+pub mod Hearings

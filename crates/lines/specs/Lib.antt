@@ -1,1 +1,4 @@
 pub mod Said
+pub mod Talk
+pub mod Frames
+pub mod Hearing

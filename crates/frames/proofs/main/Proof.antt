@@ -1,26 +1,30 @@
-use borrow.Author.Needs.{needs}
-use mathlib.Core.Path.{ap}
 use native.Mathlib.Omega.{arith}
+use Rattle.lines.proofs.Standing.{talking-first}
+use Rattle.frames.proofs.Going.{at-first, text-enough, heard-fits}
+use borrow.Author.Needs.{needs}
 use Rattle.frames.proofs.main.Statement.{statement}
 use Rattle.frames.proofs.main.Tie as tie
 
-slice-aggregate-fresh : tie.Need-slice-aggregate-fresh
-slice-aggregate-fresh c = search needs
+slice-aggregate-begin : tie.Need-slice-aggregate-begin
+slice-aggregate-begin c = search needs
 
-slice-aggregate-fresh-2 : tie.Need-slice-aggregate-fresh-2
-slice-aggregate-fresh-2 c = search needs
+slice-aggregate-begin-2 : tie.Need-slice-aggregate-begin-2
+slice-aggregate-begin-2 c = search needs
 
-slice-aggregate-fresh-3 : tie.Need-slice-aggregate-fresh-3
-slice-aggregate-fresh-3 c = search needs
+slice-aggregate-begin-3 : tie.Need-slice-aggregate-begin-3
+slice-aggregate-begin-3 c = search needs
 
-slice-aggregate-fresh-4 : tie.Need-slice-aggregate-fresh-4
-slice-aggregate-fresh-4 c = search needs
+slice-aggregate-begin-4 : tie.Need-slice-aggregate-begin-4
+slice-aggregate-begin-4 c = search needs
 
-fresh-requires : tie.Need-fresh-requires
-fresh-requires c κs = search needs
+slice-aggregate-begin-5 : tie.Need-slice-aggregate-begin-5
+slice-aggregate-begin-5 c = search needs
 
-start-requires : tie.Need-start-requires
-start-requires c κs = search needs
+slice-aggregate-begin-6 : tie.Need-slice-aggregate-begin-6
+slice-aggregate-begin-6 c = search needs
+
+begin-requires : tie.Need-begin-requires
+begin-requires c κs = at-first
 
 slice-aggregate-converse : tie.Need-slice-aggregate-converse
 slice-aggregate-converse c = search needs
@@ -47,36 +51,39 @@ slice-aggregate-converse-8 : tie.Need-slice-aggregate-converse-8
 slice-aggregate-converse-8 c = search needs
 
 converse-requires : tie.Need-converse-requires
-converse-requires c κs =
-    let e = c .before .before .before .before .before .before .before .before .start .ensures in
-    omega (arith, ap (λ l. l .high) e, ap (λ l. l .count) e)
+converse-requires c κs = (talking-first _ (c .before .before .before .before .before .before .before .before .begin .ensures), text-enough)
 
-is-begun-requires : tie.Need-is-begun-requires
-is-begun-requires c κs = search needs
+slice-aggregate-close : tie.Need-slice-aggregate-close
+slice-aggregate-close c = search needs
+
+slice-aggregate-close-2 : tie.Need-slice-aggregate-close-2
+slice-aggregate-close-2 c = search needs
+
+slice-aggregate-close-3 : tie.Need-slice-aggregate-close-3
+slice-aggregate-close-3 c = search needs
+
+slice-aggregate-close-4 : tie.Need-slice-aggregate-close-4
+slice-aggregate-close-4 c = search needs
+
+slice-aggregate-close-5 : tie.Need-slice-aggregate-close-5
+slice-aggregate-close-5 c = search needs
+
+slice-aggregate-close-6 : tie.Need-slice-aggregate-close-6
+slice-aggregate-close-6 c = search needs
+
+slice-aggregate-close-7 : tie.Need-slice-aggregate-close-7
+slice-aggregate-close-7 c = search needs
+
+close-requires : tie.Need-close-requires
+close-requires c κs =
+    let done = c .before .before .before .before .before .before .before .before .before .before .before .before .before .before .before .before .before .converse in
+    (done .ensures, omega (arith, text-enough, done .kept .1 .1 .1 .1 .1 .1 .1 .1 .0))
 
 slice-aggregate-say : tie.Need-slice-aggregate-say
 slice-aggregate-say c = search needs
 
-slice-aggregate-say-2 : tie.Need-slice-aggregate-say-2
-slice-aggregate-say-2 c = search needs
-
-slice-aggregate-say-3 : tie.Need-slice-aggregate-say-3
-slice-aggregate-say-3 c = search needs
-
-slice-aggregate-say-4 : tie.Need-slice-aggregate-say-4
-slice-aggregate-say-4 c = search needs
-
-slice-aggregate-say-5 : tie.Need-slice-aggregate-say-5
-slice-aggregate-say-5 c = search needs
-
-slice-aggregate-say-6 : tie.Need-slice-aggregate-say-6
-slice-aggregate-say-6 c = search needs
-
-slice-aggregate-say-7 : tie.Need-slice-aggregate-say-7
-slice-aggregate-say-7 c = search needs
-
 say-requires : tie.Need-say-requires
-say-requires c κs = search needs
+say-requires c κs = heard-fits _ (c .before .before .before .before .before .before .before .close .result) _ _ _ _ _ (c .before .before .before .before .before .before .before .close .ensures)
 
 returns : tie.Need-returns
 returns c = search needs
@@ -88,12 +95,13 @@ pub main-spec : {M : Type 1} → statement M
 main-spec =
     tie.close
     (tie.spec
-    slice-aggregate-fresh
-    slice-aggregate-fresh-2
-    slice-aggregate-fresh-3
-    slice-aggregate-fresh-4
-    fresh-requires
-    start-requires
+    slice-aggregate-begin
+    slice-aggregate-begin-2
+    slice-aggregate-begin-3
+    slice-aggregate-begin-4
+    slice-aggregate-begin-5
+    slice-aggregate-begin-6
+    begin-requires
     slice-aggregate-converse
     slice-aggregate-converse-2
     slice-aggregate-converse-3
@@ -103,14 +111,15 @@ main-spec =
     slice-aggregate-converse-7
     slice-aggregate-converse-8
     converse-requires
-    is-begun-requires
+    slice-aggregate-close
+    slice-aggregate-close-2
+    slice-aggregate-close-3
+    slice-aggregate-close-4
+    slice-aggregate-close-5
+    slice-aggregate-close-6
+    slice-aggregate-close-7
+    close-requires
     slice-aggregate-say
-    slice-aggregate-say-2
-    slice-aggregate-say-3
-    slice-aggregate-say-4
-    slice-aggregate-say-5
-    slice-aggregate-say-6
-    slice-aggregate-say-7
     say-requires
     returns
     returns-2)

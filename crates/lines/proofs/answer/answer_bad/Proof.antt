@@ -2,8 +2,8 @@ use borrow.Author.Needs.{needs}
 use Rattle.lines.proofs.AnswerTexts.{bad-written}
 use mathlib.Core.Path.{refl}
 use lib.ListN.{length-set}
-use Rattle.lines.proofs.answer_bad.Statement.{statement}
-use Rattle.lines.proofs.answer_bad.Tie as tie
+use Rattle.lines.proofs.answer.answer_bad.Statement.{statement}
+use Rattle.lines.proofs.answer.answer_bad.Tie as tie
 
 slice-write-text : tie.Need-slice-write-text
 slice-write-text c = search needs
@@ -18,7 +18,7 @@ same-length : tie.Need-same-length
 same-length c = search needs
 
 returns : tie.Need-returns
-returns c = let written = bad-written (c .args .text .now) (c .pre) in (written .0, (refl, written .1))
+returns c = (refl, refl, bad-written (c .args .text .now) (c .pre))
 
 pub answer-bad-spec : {M : Type 1} → statement M
 answer-bad-spec =

@@ -1,9 +1,8 @@
 use borrow.Author.Needs.{needs}
 use Rattle.model.specs.Engine.{imagesOf}
-use Rattle.lines.specs.Said.{saidNow}
-use Rattle.lines.proofs.Frames.{bad-answered, half-answered, line-reset, line-frame}
-use Rattle.lines.proofs.answer_line.Statement.{statement}
-use Rattle.lines.proofs.answer_line.Tie as tie
+use Rattle.lines.proofs.Answers.{bad-answered, half-answered, line-reset, line-frame}
+use Rattle.lines.proofs.answer.answer_line.Statement.{statement}
+use Rattle.lines.proofs.answer.answer_line.Tie as tie
 
 answer-bad-requires : tie.Need-answer-bad-requires
 answer-bad-requires c κs = search needs
@@ -15,10 +14,8 @@ returns : tie.Need-returns
 returns c =
     let answered = c .before .before .answer-bad in
     let tested = c .before .before .before .before in
-    let start = tested .before .before .before .before .before .before .before .before in (
-      answered .ensures .0,
-      bad-answered _ (start .args .line) _ _ _ (answered .result) (answered .last .1 .0) (answered .ensures .1) (tested .if1 .taken),
-    )
+    let start = tested .before .before .before .before .before .before .before .before in
+    bad-answered _ (start .args .line) _ _ _ (answered .result) _ (answered .last .1 .0) (answered .ensures) (tested .if1 .taken)
 
 answer-bad-requires-2 : tie.Need-answer-bad-requires-2
 answer-bad-requires-2 c κs = search needs
@@ -30,10 +27,8 @@ returns-2 : tie.Need-returns-2
 returns-2 c =
     let answered = c .before .before .answer-bad2 in
     let tested = c .before .before .before .before in
-    let start = tested .before .before .before .before .before .before .before .before .before in (
-      answered .ensures .0,
-      half-answered _ (start .args .line) _ _ _ (answered .result) (answered .last .1 .0) (answered .ensures .1) (tested .if2 .taken),
-    )
+    let start = tested .before .before .before .before .before .before .before .before .before in
+    half-answered _ (start .args .line) _ _ _ (answered .result) _ (answered .last .1 .0) (answered .ensures) (tested .if2 .taken)
 
 sub-is-reset : tie.Need-sub-is-reset
 sub-is-reset c = search needs
@@ -67,14 +62,12 @@ same-length-7 c = search needs
 
 returns-3 : tie.Need-returns-3
 returns-3 c =
-    let answered = c .before .before .answer-reset .ensures in
+    let answered = c .before .before .answer-reset in
     let tested = c .before .before .before .before .before .before .before .before in
     let whole = tested .before .before .before in
-    let start = whole .before .before .before .before .before .before .before .before .before in (
-      answered .0,
-      line-reset _ (start .args .line) (start .args .bytes .now) _ _ _ (whole .before .if1 .left) (whole .if2 .left)
-          _ (tested .before .is-reset .ensures) (tested .if3 .taken) (answered .1),
-    )
+    let start = whole .before .before .before .before .before .before .before .before .before in
+    line-reset _ (start .args .line) (start .args .bytes .now) _ _ (whole .before .if1 .left) (whole .if2 .left)
+    _ (tested .before .is-reset .ensures) (answered .result) _ _ (tested .if3 .taken) (answered .ensures)
 
 sub-answer-frame : tie.Need-sub-answer-frame
 sub-answer-frame c = search needs
@@ -111,14 +104,11 @@ returns-4 c =
     let answered = c .before .before .before .before .before .before .before .before .before .before .before .before in
     let left = answered .answer-frame .last .1 .1 .1 in
     let images = imagesOf (left .0) (left .1 .0) (left .1 .1 .0) (left .1 .1 .1 .0) in
-    let said = saidNow (answered .answer-frame .result) (left .1 .1 .1 .1 .0) images in
     let tested = answered .before .before .before .before .before .before .before .before in
     let whole = tested .before .before .before in
-    let start = whole .before .before .before .before .before .before .before .before .before in (
-      answered .answer-frame .ensures .0,
-      line-frame _ (start .args .line) (start .args .bytes .now) _ _ said (whole .before .if1 .left) (whole .if2 .left)
-          _ (tested .before .is-reset .ensures) (tested .if3 .left) (answered .answer-frame .ensures .1),
-    )
+    let start = whole .before .before .before .before .before .before .before .before .before in
+    line-frame _ (start .args .line) (start .args .bytes .now) _ _ (whole .before .if1 .left) (whole .if2 .left)
+    _ (tested .before .is-reset .ensures) (answered .answer-frame .result) _ _ _ images (tested .if3 .left) (answered .answer-frame .ensures)
 
 pub answer-line-spec : {M : Type 1} → statement M
 answer-line-spec =

@@ -1,7 +1,7 @@
 use borrow.Author.Needs.{needs}
-use Rattle.lines.proofs.Frames.{frame-answered}
-use Rattle.lines.proofs.answer_frame.Statement.{statement}
-use Rattle.lines.proofs.answer_frame.Tie as tie
+use Rattle.lines.proofs.Answers.{frame-answered}
+use Rattle.lines.proofs.answer.answer_frame.Statement.{statement}
+use Rattle.lines.proofs.answer.answer_frame.Tie as tie
 
 least-requires : tie.Need-least-requires
 least-requires c κs = search needs

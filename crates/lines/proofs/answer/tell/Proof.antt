@@ -1,8 +1,8 @@
 use borrow.Author.Needs.{needs}
 use Rattle.lines.proofs.AnswerTexts.{tell-written, tell-length}
 use native.Mathlib.Omega.{arith}
-use Rattle.lines.proofs.tell.Statement.{statement}
-use Rattle.lines.proofs.tell.Tie as tie
+use Rattle.lines.proofs.answer.tell.Statement.{statement}
+use Rattle.lines.proofs.answer.tell.Tie as tie
 
 slice-aggregate-encode : tie.Need-slice-aggregate-encode
 slice-aggregate-encode c = search needs

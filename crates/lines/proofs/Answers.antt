@@ -1,6 +1,6 @@
 -- What a line is answered by: Reset, a frame or bad hex.
 use Prim.Native.Nat.{ℕ, _+_, _-_, _*_, _≤_, _<_, min}
-use mathlib.Core.Path.{_≡_, sym, _∙_}
+use mathlib.Core.Path.{_≡_, sym, ap, _∙_}
 use mathlib.Core.Bool.{Bool, true, false, or-true}
 use mathlib.Core.Option.{none, some}
 use mathlib.Core.List.{List, []}
@@ -19,9 +19,9 @@ use Rattle.model.specs.Engine.{execute, resetOf}
 use Rattle.engine.specs.Results.{resultNow}
 use Rattle.hex.specs.declared.line.Line.{Line}
 use Rattle.hex.specs.Line.{lineNow, wholeOf}
-use Rattle.lines.specs.Said.{answerText, badText, Said, saidNow, resultSaid, frameSaid, resetSaid, isReset, lineSaid}
-use Rattle.lines.specs.declared.Told.{Told}
-use Rattle.lines.proofs.AnswerTexts.{told-text}
+use Rattle.lines.specs.Said.{answerText, resetText, badText, Said, Says, resultSaid, frameSaid, resetSaid, badSaid, isReset, lineSaid}
+use Rattle.lines.specs.declared.answer.Told.{Told}
+use Rattle.lines.proofs.AnswerTexts.{told-length, length-reset, front-taken}
 
 -- ---- FF alone
 pub reset-longer : (frame : List ℕ) → (length frame ≡ 1 → ⊥) → false ≡ isReset frame
@@ -33,13 +33,15 @@ unfolding isReset
 reset-one frame h = rw (eq-eqb (length frame) 1 h)
 
 -- ---- the answer to Reset
-pub reset-answered : (images : List (List ℕ)) (text after : List ℕ) (outcome : Outcome) (n : ℕ) → 7 ≤ length text → outcome ≡ resetOf images
+pub reset-answered : (images : List (List ℕ)) (text after : List ℕ) (outcome : Outcome) (n : ℕ) → outcome ≡ resetOf images
     → (n ≡ 7) × (after ≡ splice 0 (answerText (outcome .answer) []) text)
-    → (n ≤ length after) × (saidNow (record { controller = outcome .controller; length = n }) after images ≡ resetSaid images)
-unfolding resetSaid
-reset-answered images text after outcome n room e told =
-    let is = told-text (outcome .answer) [] text room after n (told .0) (told .1) in
-    (is .0, rw (is .1, e))
+    → (outcome .controller ≡ resetOf images .controller) × (n ≡ 7) × (after ≡ splice 0 resetText text)
+unfolding resetText resetOf
+reset-answered images text after outcome n e told = (
+  ap (λ (o : Outcome). o .controller) e,
+  told .0,
+  told .1 ∙ ap (λ (o : Outcome). splice 0 (answerText (o .answer) []) text) e,
+)
 
 -- ---- as many as there are
 take-most : (n : ℕ) (xs : List ℕ) → take (min n (length xs)) xs ≡ take n xs
@@ -63,46 +65,67 @@ pub frame-answered : (c : Controller) (frame area area′ text after : List ℕ)
     → k ≡ min 6 (length frame) → m ≡ min (outcome .answer .bytes) (length area′)
     → resultNow outcome area′ images′ ≡ execute c (take (k - 0) frame) (take (length frame - k) (drop k frame)) area images
     → (n ≡ 7 + 2 * length (take (m - 0) area′)) × (after ≡ splice 0 (answerText (outcome .answer) (take (m - 0) area′)) text)
-    → (n ≤ length after)
-    × (saidNow (record { controller = outcome .controller; length = n }) after images′ ≡ frameSaid c frame area images)
+    → Says (frameSaid c frame area images) (record { controller = outcome .controller; length = n }) text after area′ images′
 unfolding frameSaid resultSaid
 frame-answered c frame area area′ text after images images′ outcome k m n room same ek em done told =
     let handed : List ℕ = take (m - 0) area′ in
     let l : length handed ≤ length area = rw (length-take (m - 0) area′) (omega arith) in
-    let is = told-text (outcome .answer) handed text (omega arith) after n (told .0) (told .1) in
     let all : handed ≡ take (outcome .answer .bytes) area′ = rw (sub-zero m, em) (take-most (outcome .answer .bytes) area′) in
     let block : take (k - 0) frame ≡ take 6 frame = rw (sub-zero k, ek) (take-most 6 frame) in
     let rest : take (length frame - k) (drop k frame) ≡ drop 6 frame = rw ek (drop-most 6 frame) in
     let result : resultNow outcome area′ images′ ≡ execute c (take 6 frame) (drop 6 frame) area images = rw (← block, ← rest) done in
-    (is .0, rw (← result, is .1, all))
+    let count : n ≡ length (answerText (outcome .answer) handed) = told-length (outcome .answer) handed text (omega arith) n (told .0) in
+    let written = front-taken (answerText (outcome .answer) handed) text after n count (told .1) in
+    rw (← result, ← all) (rw written, count, told .1)
 
--- ---- the answer to a line
+-- ---- the answer to a line: what is said, by what the line is
 module _ (c : Controller) (line : Line) (bytes area : List ℕ) (images : List (List ℕ)) where
-  module _ (told : Told) (after : List ℕ) (is : (told .controller ≡ c) × (take (told .length) after ≡ badText)) where
-    spoilt-answered : wholeOf (lineNow line bytes) ≡ none
-        → saidNow told after images ≡ lineSaid c (wholeOf (lineNow line bytes)) area images
-    unfolding lineSaid
-    spoilt-answered e = rw (e, is .0, is .1)
+  abbrev said : Said
+  said = lineSaid c (wholeOf (lineNow line bytes)) area images
 
-    pub bad-answered : line .bad ≡ true → saidNow told after images ≡ lineSaid c (wholeOf (lineNow line bytes)) area images
-    unfolding wholeOf
-    bad-answered e = spoilt-answered (pick-true _ _ _ (rw e))
+  none-said : wholeOf (lineNow line bytes) ≡ none → said ≡ badSaid c area images
+  unfolding lineSaid
+  none-said e = rw e
 
-    pub half-answered : line .half ≡ true → saidNow told after images ≡ lineSaid c (wholeOf (lineNow line bytes)) area images
-    unfolding wholeOf
-    half-answered e = spoilt-answered (pick-true _ _ _ (rw (e, or-true (line .bad))))
+  module _ (told : Told) (text after : List ℕ) where
+    -- FF, and nothing changes
+    spoilt-answered : said ≡ badSaid c area images → (told .controller ≡ c) × (told .length ≡ 3) × (after ≡ splice 0 badText text)
+        → Says said told text after area images
+    unfolding badSaid
+    spoilt-answered e is =
+        rw e (rw (is .0, front-taken badText text after (told .length) (is .1) (is .2)), is .1, is .2)
 
-  module _ (said : Said) (bad : line .bad ≡ false) (half : line .half ≡ false) (reset : Bool)
-      (is : reset ≡ isReset (take (line .count - 0) bytes)) where
+    module _ (is : (told .controller ≡ c) × (told .length ≡ 3) × (after ≡ splice 0 badText text)) where
+      pub bad-answered : line .bad ≡ true → Says said told text after area images
+      unfolding wholeOf
+      bad-answered e = spoilt-answered (none-said (pick-true _ _ _ (rw e))) is
+
+      pub half-answered : line .half ≡ true → Says said told text after area images
+      unfolding wholeOf
+      half-answered e = spoilt-answered (none-said (pick-true _ _ _ (rw (e, or-true (line .bad))))) is
+
+  module _ (bad : line .bad ≡ false) (half : line .half ≡ false) (reset : Bool) (is : reset ≡ isReset (take (line .count - 0) bytes)) where
     whole-line : wholeOf (lineNow line bytes) ≡ some (take (line .count - 0) bytes)
     unfolding wholeOf
     whole-line = rw (sub-zero (line .count)) (pick-false _ _ _ (rw (bad, half)))
 
-    pub line-reset : reset ≡ true → said ≡ resetSaid images → said ≡ lineSaid c (wholeOf (lineNow line bytes)) area images
+    reset-said : reset ≡ true → said ≡ resetSaid area images
     unfolding lineSaid
-    line-reset e h = rw (whole-line, pick-true _ _ _ (sym is ∙ e)) h
+    reset-said e = rw whole-line (pick-true _ _ _ (sym is ∙ e))
 
-    pub line-frame : reset ≡ false → said ≡ frameSaid c (take (line .count - 0) bytes) area images
-        → said ≡ lineSaid c (wholeOf (lineNow line bytes)) area images
+    frame-said : reset ≡ false → said ≡ frameSaid c (take (line .count - 0) bytes) area images
     unfolding lineSaid
-    line-frame e h = rw (whole-line, pick-false _ _ _ (sym is ∙ e)) h
+    frame-said e = rw whole-line (pick-false _ _ _ (sym is ∙ e))
+
+    module _ (told : Told) (text after : List ℕ) where
+      pub line-reset : reset ≡ true
+          → (told .controller ≡ resetOf images .controller) × (told .length ≡ 7) × (after ≡ splice 0 resetText text)
+          → Says said told text after area images
+      unfolding resetSaid
+      line-reset e h =
+          let l : told .length ≡ length resetText = h .1 ∙ sym length-reset in
+          rw (reset-said e) (rw (h .0, front-taken resetText text after (told .length) l (h .2)), l, h .2)
+
+      pub line-frame : (area′ : List ℕ) (images′ : List (List ℕ)) → reset ≡ false
+          → Says (frameSaid c (take (line .count - 0) bytes) area images) told text after area′ images′ → Says said told text after area′ images′
+      line-frame area′ images′ e h = rw (frame-said e) h

@@ -1,7 +1,7 @@
 use borrow.Author.Needs.{needs}
-use Rattle.lines.proofs.Frames.{reset-answered}
-use Rattle.lines.proofs.answer_reset.Statement.{statement}
-use Rattle.lines.proofs.answer_reset.Tie as tie
+use Rattle.lines.proofs.Answers.{reset-answered}
+use Rattle.lines.proofs.answer.answer_reset.Statement.{statement}
+use Rattle.lines.proofs.answer.answer_reset.Tie as tie
 
 reset-requires : tie.Need-reset-requires
 reset-requires c κs = search needs
@@ -24,8 +24,7 @@ same-length c = search needs
 returns : tie.Need-returns
 returns c =
     let done = c .before .before .before .before .before .before .before in
-    let start = done .before .before .before .before .before .before in
-    reset-answered _ _ _ _ _ (start .pre) (done .reset .ensures) (c .before .before .tell .ensures)
+    reset-answered _ _ _ _ _ (done .reset .ensures) (c .before .before .tell .ensures)
 
 pub answer-reset-spec : {M : Type 1} → statement M
 answer-reset-spec =
