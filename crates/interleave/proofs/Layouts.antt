@@ -297,13 +297,7 @@ module _ (n f : ℕ) (pos : 0 < n) where
   unfolding layoutOf
   layout-one i j hi hj e = last-good .one i j hi hj e (layout-below i hi)
 
--- (b) sector 0 has slot 0, and sector 1 slot f: different interleaves give different layouts
-pub layout-zero : (n f : ℕ) → 0 < n → getD (layoutOf n f) 0 0 ≡ 0
-unfolding layoutOf
-layout-zero n f h =
-    let z : getD (laid n f 0 .map) 0 0 ≡ 0 = zero-there n f h in
-    rw zero-add at (stays n f 0 0 0 h z (n - 1) (omega arith))
-
+-- (b) sector 1 has slot f
 pub layout-first : (n f : ℕ) → 0 < f → f < n → getD (layoutOf n f) f 0 ≡ 1
 unfolding layoutOf
 layout-first n f hf h =

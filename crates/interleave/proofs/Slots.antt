@@ -50,9 +50,3 @@ module _ (n f : ℕ) where
 
   pub slot-one : 0 < f → f < n → slotOf n f 1 ≡ f
   slot-one h k = layout-one n f (omega arith) (slotOf n f 1) f (slot-lt 1 (omega arith)) k (sector-slot 1 (omega arith) ∙ sym (layout-first n f h k))
-
--- different interleaves give different layouts
-pub layouts-differ : (n f g : ℕ) → 0 < f → f < n → 0 < g → g < n → layoutOf n f ≡ layoutOf n g → f ≡ g
-layouts-differ n f g hf lf hg lg e =
-    sym (slot-one n f hf lf) ∙ layout-one n g (omega arith) (slotOf n f 1) g (slot-lt n f 1 (omega arith)) lg
-    (ap (λ (l : List ℕ). getD l (slotOf n f 1) 0) (sym e) ∙ sector-slot n f 1 (omega arith) ∙ sym (layout-first n g hg lg))
