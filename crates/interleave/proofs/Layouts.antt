@@ -262,10 +262,6 @@ stays n f j s k sn e (suc i) h =
     let b = stays n f j s k sn e i (omega arith) in
     rw add-suc (kept n f (k + i) j (omega arith) (λ z. absurd (omega arith)) ∙ b)
 
-zero-there : (n f : ℕ) → 0 < n → getD (laid n f 0 .map) 0 0 ≡ 0
-unfolding laid layAt
-zero-there n f h = getD-set-same (replicate n n) 0 0 0 (omega (arith, length-replicate n n))
-
 one-there : (n f : ℕ) → 0 < f → f < n → getD (laid n f 1 .map) f 0 ≡ 1
 unfolding laid place layAt
 one-there n f hf h =
