@@ -1,17 +1,20 @@
 -- What holds between two calls: no slice has changed its length, the text has room for any answer, and the slices lent are where an
 -- input from the start has left the program.
 use Prim.Native.Nat.{ℕ, _+_, _-_, _≤_, _<_}
-use mathlib.Core.Path.{_≡_, refl, _∙_}
-use mathlib.Core.List.{List, []}
+use mathlib.Core.Path.{_≡_, refl, sym, ap, _∙_}
+use mathlib.Core.Bool.{true, false, false≢true}
+use mathlib.Core.List.{List, [], _++_}
 use native.Mathlib.Omega.{arith}
-use lib.ListN.{length, take, drop, replicate, length-take, length-drop, length-replicate}
+use lib.ListN.{length, take, drop, replicate, length-take, length-drop, length-replicate, take-append-drop, drop-of-length-le}
+use lib.Seq.{take-all, drop-drop}
 use Rattle.model.specs.Engine.{imagesOf}
 use Rattle.lines.specs.declared.talk.Heard.{Heard}
 use Rattle.lines.specs.Talk.{Talk, Spoken, talked}
-use Rattle.lines.specs.Frames.{firstImages, Talking}
+use Rattle.lines.specs.Frames.{firstImages, spokenBehind, Talking}
 use Rattle.lines.specs.Hearing.{textLength, Speaks, talkNow, AtFirst, lineEnd}
 use Rattle.lines.proofs.AnswerTexts.{front-fits}
 use Rattle.lines.proofs.Standing.{talking-on}
+use Rattle.lines.proofs.Talks.{talked-cut}
 
 -- The lengths of the slices that a session is lent.
 pub record Lengths : Type 0 where
@@ -62,6 +65,26 @@ unfolding lineEnd
 taken-part input at n h e =
     let l : length (take (length input - at) (drop at input)) ≡ length input - at = rw (length-take, length-drop) (omega arith) in
     (omega arith, omega arith)
+
+-- ---- what is left of the input, taken in from here, makes the whole
+module _ (whole x : Talk) (input : List ℕ) (at : ℕ) (rest : talked x (drop at input) .talk ≡ whole) where
+  pub rest-none : length input ≤ at → x ≡ whole
+  unfolding talked
+  rest-none h = rw (drop-of-length-le input {i = at} h) at rest
+
+  pub rest-more : (y : Talk) (n : ℕ) → y ≡ talked x (take n (take (length input - at) (drop at input))) .talk
+      → talked y (drop (at + n) input) .talk ≡ whole
+  unfolding spokenBehind
+  rest-more y n e =
+      let all : take (length input - at) (drop at input) ≡ drop at input = take-all (length input - at) (drop at input) (simp length-drop (omega arith)) in
+      let on : drop n (drop at input) ≡ drop (at + n) input = drop-drop n at input in
+      let cut = talked-cut x (take n (drop at input)) (drop n (drop at input)) in
+      let parts : talked y (drop (at + n) input) .talk ≡ talked x (take n (drop at input) ++ drop n (drop at input)) .talk =
+      rw (e, all, ← on) (sym (ap (λ (s : Spoken). s .talk) cut)) in
+      parts ∙ rw (take-append-drop n (drop at input)) rest
+
+pub none-taken : {A : Type 0} → false ≡ true → A
+none-taken e = absurd (false≢true e)
 
 -- ---- the slices of `main`
 pub at-first : AtFirst (replicate 1030 0) (replicate 1024 0) (imagesOf (replicate 25360 0) (replicate 25360 0) [] [])

@@ -8,9 +8,12 @@ use lines::talk::Session;
 use lines::talk::begin;
 use lines::talk::close;
 use lines::talk::hear;
+ghost use mathlib.Core.Path.{_≡_};
+ghost use mathlib.Core.Bool.{true};
 ghost use Prim.Native.Nat.{_≤_};
 ghost use lib.ListN.{length};
 ghost use Rattle.model.specs.Engine.{imagesOf};
+ghost use Rattle.lines.specs.Talk.{talked};
 ghost use Rattle.lines.specs.Frames.{Talking};
 ghost use Rattle.lines.specs.Hearing.{talkNow, textLength};
 
@@ -51,7 +54,7 @@ fn say(text: &[u8], n: usize) -> bool
     io::write_all(STDOUT, &text[0..n])
 }
 
-// Takes in what has come of the input, a line at a time, and writes what is said. A failed write ends the program.
+// Takes in what has come of the input, all of it, a line at a time, and writes what is said. A failed write ends the program.
 fn feed(
     first: Session,
     input: &[u8],
@@ -67,6 +70,10 @@ fn feed(
     requires { ⌜ textLength ≤ length (now text) ⌝ }
     ensures { λ r. ⌜ Talking (talkNow (r .session) (now (bytes .exit)) (now (area .exit))
         (imagesOf (now (image0 .exit)) (now (image1 .exit)) (now (image2 .exit)) (now (image3 .exit)))) ⌝ }
+    ensures { λ r. ⌜ (r .going ≡ true → talkNow (r .session) (now (bytes .exit)) (now (area .exit))
+        (imagesOf (now (image0 .exit)) (now (image1 .exit)) (now (image2 .exit)) (now (image3 .exit)))
+        ≡ talked (talkNow first (now (bytes .entry)) (now (area .entry))
+        (imagesOf (now (image0 .entry)) (now (image1 .entry)) (now (image2 .entry)) (now (image3 .entry)))) (now (input .entry)) .talk) ⌝ }
 {
     let end = input.len();
     let mut here = first;

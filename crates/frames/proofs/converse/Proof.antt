@@ -88,7 +88,7 @@ same-length-16 : tie.Need-same-length-16 Inv-loop μ-loop
 same-length-16 c = c .before .before .before .before .before .before .before .before .before .before .before .before .before .before .before .before .before .feed .kept .1 .1 .1 .1 .1 .1 .1 .1 .0 ∙ ap (λ l. l .text) (c .before .before .before .before .before .before .before .before .before .before .before .before .before .before .before .before .before .before .before .before .before .before .before .before .before .before .before .before .before .before .before .before .before .loop .inv .1 .same)
 
 returns-2 : tie.Need-returns-2 Inv-loop μ-loop
-returns-2 c = c .before .before .before .before .before .before .before .before .before .before .before .before .before .before .before .before .before .feed .ensures
+returns-2 c = c .before .before .before .before .before .before .before .before .before .before .before .before .before .before .before .before .before .feed .ensures .0
 
 sub-turns : tie.Need-sub-turns Inv-loop μ-loop
 sub-turns c = search (needs, c .before .before .before .before .before .before .before .before .before .before .before .before .before .before .before .before .before .before .before .before .before .before .before .before .before .before .before .before .before .before .before .before .loop-test .taken)
@@ -103,7 +103,7 @@ loop-again c =
       c .before .before .before .before .before .before .before .before .before .before .before .before .before .before .before .before .before .before .before .before .before .before .before .before .before .before .before .before .before .before .read-some .kept .0 ∙ inv .0,
       going-on _ _ (inv .1)
           (rw (k .0, k .1 .0, k .1 .1 .0, k .1 .1 .1 .0, k .1 .1 .1 .1 .0, k .1 .1 .1 .1 .1 .0, k .1 .1 .1 .1 .1 .1 .0))
-          (c .before .before .before .before .before .before .before .before .before .before .before .before .before .before .before .before .before .feed .ensures),
+          (c .before .before .before .before .before .before .before .before .before .before .before .before .before .before .before .before .before .feed .ensures .0),
     )
 
 same-length-17 : tie.Need-same-length-17 Inv-loop μ-loop

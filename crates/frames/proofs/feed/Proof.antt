@@ -1,11 +1,12 @@
 use borrow.Author.Needs.{needs}
 use native.Mathlib.Omega.{arith}
 use Prim.Native.Nat.{_-_, _≤_}
-use lib.ListN.{length}
-use mathlib.Core.Path.{ap, _∙_}
+use lib.ListN.{length, drop}
+use mathlib.Core.Path.{_≡_, refl, ap, _∙_}
 use Rattle.model.specs.Engine.{imagesOf}
+use Rattle.lines.specs.Talk.{talked}
 use Rattle.lines.specs.Hearing.{talkNow}
-use Rattle.frames.proofs.Going.{Going, lengths, going-first, going-on, heard-on, heard-fits, taken-part}
+use Rattle.frames.proofs.Going.{Going, lengths, going-first, going-on, heard-on, heard-fits, taken-part, rest-none, rest-more, none-taken}
 use Rattle.frames.proofs.feed.Statement.{statement}
 use Rattle.frames.proofs.feed.Tie as tie
 
@@ -14,13 +15,15 @@ Inv-loop input bytes₀ area₀ image0₀ image1₀ image2₀ image3₀ text₀ 
     (at ≤ length input)
     × Going (lengths bytes₀ area₀ image0₀ image1₀ image2₀ image3₀ text₀) (lengths bytes area image0 image1 image2 image3 text)
     (talkNow here bytes area (imagesOf image0 image1 image2 image3))
+    × (talked (talkNow here bytes area (imagesOf image0 image1 image2 image3)) (drop at input) .talk
+    ≡ talked (talkNow here₀ bytes₀ area₀ (imagesOf image0₀ image1₀ image2₀ image3₀)) input .talk)
 
 abbrev μ-loop : tie.MeasureT-loop
 μ-loop input bytes₀ area₀ image0₀ image1₀ image2₀ image3₀ text₀ end here₀ at₀ bytes area image0 image1 image2 image3 text here at =
     length input - at
 
 loop-holds : tie.Need-loop-holds Inv-loop μ-loop
-loop-holds c = (omega arith, going-first (c .before .before .before .before .before .before .before .before .pre .0) (c .before .before .before .before .before .before .before .before .pre .1))
+loop-holds c = (omega arith, going-first (c .before .before .before .before .before .before .before .before .pre .0) (c .before .before .before .before .before .before .before .before .pre .1), refl)
 
 sub-new : tie.Need-sub-new Inv-loop μ-loop
 sub-new c = search needs
@@ -59,7 +62,7 @@ same-length-7 : tie.Need-same-length-7 Inv-loop μ-loop
 same-length-7 c = c .before .before .before .before .before .before .before .before .before .before .before .before .before .before .before .before .before .before .hear .kept .1 .1 .1 .1 .1 .1 .1 .1 .0 ∙ ap (λ l. l .text) (c .before .before .before .before .before .before .before .before .before .before .before .before .before .before .before .before .before .before .before .before .before .before .before .before .before .before .before .before .loop .inv .1 .same)
 
 returns : tie.Need-returns Inv-loop μ-loop
-returns c = heard-on (c .before .before .before .before .before .before .before .before .before .before .before .before .before .before .before .before .before .before .hear .result) _ _ _ _ _ _ (c .before .before .before .before .before .before .before .before .before .before .before .before .before .before .before .before .before .before .before .before .before .before .before .before .before .before .before .before .loop .inv .1 .talking) (c .before .before .before .before .before .before .before .before .before .before .before .before .before .before .before .before .before .before .hear .ensures .1)
+returns c = (heard-on (c .before .before .before .before .before .before .before .before .before .before .before .before .before .before .before .before .before .before .hear .result) _ _ _ _ _ _ (c .before .before .before .before .before .before .before .before .before .before .before .before .before .before .before .before .before .before .before .before .before .before .before .before .before .before .before .before .loop .inv .1 .talking) (c .before .before .before .before .before .before .before .before .before .before .before .before .before .before .before .before .before .before .hear .ensures .1), λ e. none-taken e)
 
 add-at : tie.Need-add-at Inv-loop μ-loop
 add-at c =
@@ -74,12 +77,15 @@ loop-less c =
 loop-again : tie.Need-loop-again Inv-loop μ-loop
 loop-again c =
     let part = taken-part (c .before .before .before .before .before .before .before .before .before .before .before .before .before .before .before .before .before .before .before .before .before .before .before .before .before .before .before .before .before .before .before .before .before .before .before .before .before .args .input .now) _ _ (c .before .before .before .before .before .before .before .before .before .before .before .before .before .before .before .before .before .before .before .before .before .before .before .before .before .before .before .loop-test .taken) (c .before .before .before .before .before .before .before .before .before .before .before .before .before .before .before .before .before .before .hear .ensures .0) in
-    let inv = c .before .before .before .before .before .before .before .before .before .before .before .before .before .before .before .before .before .before .before .before .before .before .before .before .before .before .before .before .loop .inv in
-    let k = c .before .before .before .before .before .before .before .before .before .before .before .before .before .before .before .before .before .before .hear .kept .1 .1 in (
+    let loop = c .before .before .before .before .before .before .before .before .before .before .before .before .before .before .before .before .before .before .before .before .before .before .before .before .before .before .before .before .loop in
+    let inv = loop .inv in
+    let heard = c .before .before .before .before .before .before .before .before .before .before .before .before .before .before .before .before .before .before .hear in
+    let k = heard .kept .1 .1 in (
       part .1,
       going-on _ _ (inv .1)
           (rw (k .0, k .1 .0, k .1 .1 .0, k .1 .1 .1 .0, k .1 .1 .1 .1 .0, k .1 .1 .1 .1 .1 .0, k .1 .1 .1 .1 .1 .1 .0))
-          (heard-on (c .before .before .before .before .before .before .before .before .before .before .before .before .before .before .before .before .before .before .hear .result) _ _ _ _ _ _ (inv .1 .talking) (c .before .before .before .before .before .before .before .before .before .before .before .before .before .before .before .before .before .before .hear .ensures .1)),
+          (heard-on (heard .result) _ _ _ _ _ _ (inv .1 .talking) (heard .ensures .1)),
+      rest-more _ _ (c .before .before .before .before .before .before .before .before .before .before .before .before .before .before .before .before .before .before .before .before .before .before .before .before .before .before .before .before .before .before .before .before .before .before .before .before .before .args .input .now) (loop .at) (inv .2) _ (heard .result .taken) (heard .ensures .1 .0),
     )
 
 same-length-8 : tie.Need-same-length-8 Inv-loop μ-loop
@@ -104,7 +110,9 @@ same-length-14 : tie.Need-same-length-14 Inv-loop μ-loop
 same-length-14 c = ap (λ l. l .text) (c .before .loop .inv .1 .same)
 
 returns-2 : tie.Need-returns-2 Inv-loop μ-loop
-returns-2 c = c .before .loop .inv .1 .talking
+returns-2 c =
+    let inv = c .before .loop .inv in
+    (inv .1 .talking, λ _. rest-none _ _ _ _ (inv .2) (c .loop-test .left))
 
 pub feed-spec : {M : Type 1} → statement M
 feed-spec =
