@@ -36,7 +36,7 @@ use Rattle.model.specs.Commands.{read, transferred, doSectors, doDisk, carryOut
 use Rattle.model.specs.Engine.{Result, viewOf, obey, imageOf, left, onDrive, execute}
 use Rattle.model.proofs.engine.Known.{setting-known}
 use Rattle.model.proofs.engine.Checked.{opcodeFor, row-of, Cleared, cleared, area-enough, count-cleared}
-use Rattle.model.proofs.engine.Leaving.{Hands, nothing, own-sense, own-buffer, read-out, Obeyed, answered, denied, obeyed}
+use Rattle.model.proofs.engine.Leaving.{Hands, nothing, no-sense, own-sense, no-buffer, own-buffer, read-out, Obeyed, answered, denied, obeyed}
 
 module _ (b : Block) (given : List ℕ) (area : ℕ) (entry : Drive) (buffer image : List ℕ)
     (four : length (entry .sense) ≡ 4) (whole : length buffer ≡ 512) where
@@ -82,19 +82,21 @@ module _ (b : Block) (given : List ℕ) (area : ℕ) (entry : Drive) (buffer ima
       read-fits Invalid e = omega arith
       read-fits (Valid p) e = sectors-fit p e
 
-    hands-fit : (command : Command) (handed : List ℕ) → rowFor (b .opcode) .command ≡ command → after .handed ≡ handed
-        → Hands entry buffer command handed → length handed ≤ area
+    hands-fit : (command : Command) (status : ℕ) (handed : List ℕ) → rowFor (b .opcode) .command ≡ command → after .handed ≡ handed
+        → Hands b entry buffer command status handed → length handed ≤ area
     unfolding rowFor opcodeFor bytesOf
-    hands-fit command [] is e nothing = omega arith
-    hands-fit (Free RequestSense) handed is e own-sense = omega (arith, four, enough _ is)
-    hands-fit (Free ReadBuffer) handed is e own-buffer = omega (arith, whole, enough _ is)
-    hands-fit (OnDisk (SectorWork Read)) handed is e (read-out bytes) =
+    hands-fit command status [] is e (nothing quiet) = omega arith
+    hands-fit (Free RequestSense) status [] is e no-sense = omega arith
+    hands-fit (Free RequestSense) status handed is e own-sense = omega (arith, four, enough _ is)
+    hands-fit (Free ReadBuffer) status [] is e no-buffer = omega arith
+    hands-fit (Free ReadBuffer) status handed is e own-buffer = omega (arith, whole, enough _ is)
+    hands-fit (OnDisk (SectorWork Read)) status handed is e (read-out bytes) =
         let done : after ≡ carryOut b (view .setting) given entry buffer image (OnDisk (SectorWork Read)) =
         after-passed ∙ ap (carryOut b (view .setting) given entry buffer image) is in
         rw (← e, done) (read-fits is (view .setting) refl)
 
     passed-fits : Obeyed b given entry buffer image (rowFor (b .opcode) .command) after → length (after .handed) ≤ area
-    passed-fits (answered ends) = hands-fit _ _ refl refl (ends .hands)
+    passed-fits (answered ends) = hands-fit _ _ _ refl refl (ends .hands)
     passed-fits (denied number low high e) = rw e (omega arith)
 
   by-verdict : (v : Verdict) → judge b view (length given) area ≡ v → length (after .handed) ≤ area
