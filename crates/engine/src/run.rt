@@ -81,8 +81,8 @@ pub fn execute_on(
     image3: &mut [u8],
 ) -> Ran
     requires { ⌜ length (now buffer) ≡ 512 ⌝ }
-    ensures { λ r. ⌜ resultNow (record { controller = record { buffer = now (buffer .exit); drives = r .drives }; answer = r .answer }) (now (area .exit))
-        (imagesOf (now (image0 .exit)) (now (image1 .exit)) (now (image2 .exit)) (now (image3 .exit)))
+    ensures { λ r. ⌜ resultNow (record { controller = record { buffer = now (buffer .exit); drives = r .drives }; answer = r .answer })
+        (now (area .exit)) (imagesOf (now (image0 .exit)) (now (image1 .exit)) (now (image2 .exit)) (now (image3 .exit)))
         ≡ execute (record { buffer = now (buffer .entry); drives = drives }) (now (block .entry)) (now (given .entry)) (now (area .entry))
         (imagesOf (now (image0 .entry)) (now (image1 .entry)) (now (image2 .entry)) (now (image3 .entry))) ⌝ }
 {

@@ -50,12 +50,14 @@ way-back 𝓤 H q ν τs k τ d b o vs =
 module _ {M : Type 1} {𝓤 : URA M} {H : Heap 𝓤} {A : Atoms 𝓤} {K : Type 0} {W : Given 𝓤 H A} {Γ : List (Item 𝓤)} {G : Goal 𝓤 H} where
   module _ {q : Share} {ν : Sym} {τs : Tys} {τ : Ty} {b o : ℕ} where
     pub field-out : K → (k : ℕ) {d : ℕ} {vs : Vals} → fieldAt zero τs k ≡ found (τ, d)
-        → Step K W (‵ (fat q τ b (o + d) (getV vs k)) ∷ raw (way-back 𝓤 H q ν τs k τ d b o vs) ∷ Γ) G (‵ (fat q (tyStruct ν τs) b o (vstruct vs)) ∷ Γ) G
+        → Step K W (‵ (fat q τ b (o + d) (getV vs k)) ∷ raw (way-back 𝓤 H q ν τs k τ d b o vs) ∷ Γ) G
+        (‵ (fat q (tyStruct ν τs) b o (vstruct vs)) ∷ Γ) G
     field-out t k {d} {vs} at = step (λ s.
         use1 W (‵ (fat q τ b (o + d) (getV vs k)) ⊛ raw (way-back 𝓤 H q ν τs k τ d b o vs)) (W .laws .at-field q ν τs k τ d at b o vs) $ split t $ s)
 
     pub field-back : K → (k d : ℕ) (vs : Vals) {u : Val}
-        → Step K W (‵ (fat q (tyStruct ν τs) b o (vstruct (setV vs k u))) ∷ Γ) G (‵ (fat q τ b (o + d) u) ∷ raw (way-back 𝓤 H q ν τs k τ d b o vs) ∷ Γ) G
+        → Step K W (‵ (fat q (tyStruct ν τs) b o (vstruct (setV vs k u))) ∷ Γ) G
+        (‵ (fat q τ b (o + d) u) ∷ raw (way-back 𝓤 H q ν τs k τ d b o vs) ∷ Γ) G
     field-back t k d vs {u} = step (λ s. move t (1 ∷ []) $
         use1 W (raw (wand 𝓤 (H .at q τ b (o + d) u) (H .at q (tyStruct ν τs) b o (vstruct (setV vs k u)))))
         (allE 𝓤 (λ (z : Val). wand 𝓤 (H .at q τ b (o + d) z) (H .at q (tyStruct ν τs) b o (vstruct (setV vs k z)))) u) $ move t (1 ∷ 0 ∷ []) $
@@ -75,7 +77,8 @@ module _ {M : Type 1} {𝓤 : URA M} {H : Heap 𝓤} {A : Atoms 𝓤} {K : Type 
         fpack t (List Val) (λ vs. fsep (cellAt fullShare (Array R n .mir) vs b o) (Array R n .own xs vs)) (v ∷ []) $
         use1 W (‵ (arr-parts (shares R) n .part fullShare xs b o)) (array-apart 𝓤 H A W R fullShare one n xs b o) $ fsplit t $ feqL t (λ l.
         use1 W (‵ (cells (mem R) xs b o)) (whole-in 𝓤 H A W R xs b o) $
-        use1 W (later (some (λ (γ : GName). ‵ (MutSlice ℓ κ R .own (slice-of b o γ xs) (sliceVal (b, o) (length xs) ∷ [])) ⊛ ‵ (flent κ (Held R (length xs) b o γ)))))
+        use1 W (later (some (λ (γ : GName).
+        ‵ (MutSlice ℓ κ R .own (slice-of b o γ xs) (sliceVal (b, o) (length xs) ∷ [])) ⊛ ‵ (flent κ (Held R (length xs) b o γ)))))
         (lends-slice 𝓤 H A W R ℓ κ xs b o (subst (Room R) (sym l) room)) $ await t z $ pick t (λ γ. split t $
         rewrite t 0 (λ (m : ℕ). ‵ (MutSlice ℓ κ R .own (slice-of b o γ xs) (sliceVal (b, o) m ∷ []))) l refl $
         rewrite t 1 (λ (m : ℕ). ‵ (flent κ (Held R m b o γ))) l refl $ k γ))

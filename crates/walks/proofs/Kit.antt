@@ -27,5 +27,5 @@ pub use denote.Slice.{sliceVal}
 pub use denote.Array.{Array}
 pub use denote.Steps.{owned}
 pub use denote.Triple.Statement.{Contract, Triple}
-pub use denote.Triple.Clauses.{Lasts}
+pub use denote.Triple.Clauses.{Clauses, Lasts}
 pub use denote.Triple.Call.{calls-at}

@@ -1,9 +1,10 @@
 -- Operands, right sides and stores as a walk of a thin call meets them, each by the entries of the context that it is about.
---     local-at, behind-at, field-of        a local; what lies behind a reference that is in a local; a field of a local
+--     local-at, field-of       a local; a field of a local
 --     part-at          field k of the struct at entry n
 --     within-at, lent-within       a field of the struct that lies behind a reference that is in a local: its value; its address
 --     lent-from, pair-of       a `&mut [T]` in a local is lent again: its pointer; the slice of that pointer and the same length
---     sets, sets-behind, sets-within       a local that was room is set; what lies behind a reference that is in a local is overwritten, or a field of it
+--     sets             a local that was room is set.        sets-behind, sets-within     what lies behind a reference that is in a local is
+--                      overwritten; a field of it is
 -- They take `Given`.
 use mathlib.Core.Path.{_≡_, sym, subst}
 use Prim.Native.Nat.{ℕ, zero, _+_}
@@ -21,7 +22,7 @@ use prog.Memory.{fieldOf, fieldAt}
 use prog.Wp.{Heap, Env, Calls, Loops, spotOf}
 use ghost.Atoms.{Atoms}
 use types.Kit.{Given, Item, ‵, nth, put, Post, runs, Step}
-use types.Run.{Reads, Opd, Rv, look, look-raw, init, store-raw, stop, hop, fld, from, load, addr, and-then, no-more, assigns}
+use types.Run.{Reads, Opd, Rv, look, init, store-raw, stop, hop, fld, from, load, addr, and-then, no-more, assigns}
 use types.Part.{Part, agg, whole, sub, look-in, store-in}
 
 -- local i holds a value, to a share; and it is room
@@ -42,10 +43,6 @@ module _ {M : Type 1} {𝓤 : URA M} {H : Heap 𝓤} {A : Atoms 𝓤} {K : Type 
   module _ {E : Env 𝓤 H} where
     pub local-at : K → (n : ℕ) {i : ℕ} {q : Share} {v : Val} → nth 𝓤 H A n Γ ≡ ‵ (holds 𝓤 H E i q v) → Opd K W Γ E (copy (place i [])) v
     local-at t n e = load t (from t (stop t)) (look t n e)
-
-    pub behind-at : K → (n m : ℕ) {i : ℕ} {q s : Share} {τ : Ty} {b o : ℕ} {v : Val} → nth 𝓤 H A n Γ ≡ ‵ (holds 𝓤 H E i q (vptr b o))
-        → nth 𝓤 H A m Γ ≡ ‵ (fat s (rawTy τ) b o v) → Opd K W Γ E (copy (place i (deref τ ∷ []))) v
-    behind-at t n m e e′ = load t (from t (hop t (look t n e) (stop t))) (look-raw t m e′)
 
     module _ {i : ℕ} {q : Share} {ν : Sym} {τs : Tys} {τ : Ty} {b o d : ℕ} where
       pub lent-within : K → (n k : ℕ) → nth 𝓤 H A n Γ ≡ ‵ (holds 𝓤 H E i q (vptr b o)) → fieldAt zero τs k ≡ some (τ, d)
@@ -88,5 +85,6 @@ module _ {M : Type 1} {𝓤 : URA M} {H : Heap 𝓤} {A : Atoms 𝓤} {K : Type 
           Γ (runs C Λ E (seq (assign (place i (deref (tyStruct ν τs) ∷ field k ∷ [])) rv) rest) q)
       sets-within t r n m k {ν = ν} {τs} {τ} {b} {o} {d} {vs} e e′ at typed =
           assigns t r (from t (hop t (look t n e) (fld t at (stop t))))
-          (store-in t m (subst (λ (j : Item 𝓤). Part K W j fullShare τ b (o + d) (getV vs k) (λ u. ‵ (fat fullShare (tyStruct ν τs) b o (vstruct (setV vs k u)))))
+          (store-in t m (subst (λ (j : Item 𝓤).
+          Part K W j fullShare τ b (o + d) (getV vs k) (λ u. ‵ (fat fullShare (tyStruct ν τs) b o (vstruct (setV vs k u)))))
           (sym e′) (sub t k at (whole t))) typed)
