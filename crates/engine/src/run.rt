@@ -3,6 +3,7 @@ use checks::block::decode;
 use dispatch::obey::obey;
 use endings::ending::bare_answer;
 use model::block::Block;
+use model::record::Answer;
 use model::record::Controller;
 use model::record::Drive;
 use model::record::Ending;
@@ -61,7 +62,59 @@ fn on_images(
     obey(entry, b, buffer, given, area, image3)
 }
 
-// A command: any block, given data, data area and images.
+// What a call leaves beside the buffer: the drives' entries, and the answer.
+pub struct Ran {
+    pub drives: [Drive; 4],
+    pub answer: Answer,
+}
+
+// A command: any block, given data, data area and images. The buffer is lent, so that no call copies it.
+pub fn execute_on(
+    drives: [Drive; 4],
+    buffer: &mut [u8],
+    block: &[u8],
+    given: &[u8],
+    area: &mut [u8],
+    image0: &mut [u8],
+    image1: &mut [u8],
+    image2: &mut [u8],
+    image3: &mut [u8],
+) -> Ran
+    requires { ⌜ length (now buffer) ≡ 512 ⌝ }
+    ensures { λ r. ⌜ resultNow (record { controller = record { buffer = now (buffer .exit); drives = r .drives }; answer = r .answer })
+        (now (area .exit)) (imagesOf (now (image0 .exit)) (now (image1 .exit)) (now (image2 .exit)) (now (image3 .exit)))
+        ≡ execute (record { buffer = now (buffer .entry); drives = drives }) (now (block .entry)) (now (given .entry)) (now (area .entry))
+        (imagesOf (now (image0 .entry)) (now (image1 .entry)) (now (image2 .entry)) (now (image3 .entry))) ⌝ }
+{
+    if block.len() != 6 {
+        return Ran {
+            drives: drives,
+            answer: bare_answer(1),
+        };
+    }
+    let b = decode(block);
+    let drive = b.drive;
+    let ending = on_images(
+        drive_at(drives, drive),
+        b,
+        buffer,
+        given,
+        area,
+        image0,
+        image1,
+        image2,
+        image3,
+    );
+    let entry = ending.entry;
+    let answer = ending.answer;
+    let after = with_drive(drives, drive, entry);
+    Ran {
+        drives: after,
+        answer: answer,
+    }
+}
+
+// The same of a record by value.
 pub fn execute(
     c: Controller,
     block: &[u8],
@@ -76,20 +129,12 @@ pub fn execute(
         ≡ execute c (now (block .entry)) (now (given .entry)) (now (area .entry))
         (imagesOf (now (image0 .entry)) (now (image1 .entry)) (now (image2 .entry)) (now (image3 .entry))) ⌝ }
 {
-    if block.len() != 6 {
-        return Outcome {
-            controller: c,
-            answer: bare_answer(1),
-        };
-    }
     let drives = c.drives;
     let mut buffer = c.buffer;
-    let b = decode(block);
-    let drive = b.drive;
-    let ending = on_images(
-        drive_at(drives, drive),
-        b,
+    let ran = execute_on(
+        drives,
         &mut buffer,
+        block,
         given,
         area,
         image0,
@@ -97,13 +142,12 @@ pub fn execute(
         image2,
         image3,
     );
-    let entry = ending.entry;
-    let answer = ending.answer;
-    let after = with_drive(drives, drive, entry);
+    let left = ran.drives;
+    let answer = ran.answer;
     Outcome {
         controller: Controller {
             buffer: buffer,
-            drives: after,
+            drives: left,
         },
         answer: answer,
     }

@@ -2,7 +2,7 @@
 // which takes the record by value, for C and Rust to link.
 use engine::reset::fresh;
 use engine::reset::reset;
-use engine::run::execute;
+use engine::run::execute_on;
 use model::record::Answer;
 use model::record::Controller;
 ghost use mathlib.Core.Path.{_≡_};
@@ -26,9 +26,19 @@ pub extern "C" fn lanthewg_execute(
         ≡ execute (now (c .entry)) (now (block .entry)) (now (given .entry)) (now (area .entry))
         (imagesOf (now (image0 .entry)) (now (image1 .entry)) (now (image2 .entry)) (now (image3 .entry))) ⌝ }
 {
-    let o = execute(*c, block, given, area, image0, image1, image2, image3);
-    *c = o.controller;
-    o.answer
+    let ran = execute_on(
+        c.drives,
+        &mut c.buffer,
+        block,
+        given,
+        area,
+        image0,
+        image1,
+        image2,
+        image3,
+    );
+    c.drives = ran.drives;
+    ran.answer
 }
 
 // Reset answers zeros.

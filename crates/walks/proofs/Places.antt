@@ -1,8 +1,10 @@
 -- Operands, right sides and stores as a walk of a thin call meets them, each by the entries of the context that it is about.
---     local-at, behind-at, field-of        a local; what lies behind a reference that is in a local; a field of a local
+--     local-at, field-of       a local; a field of a local
 --     part-at          field k of the struct at entry n
+--     within-at, lent-within       a field of the struct that lies behind a reference that is in a local: its value; its address
 --     lent-from, pair-of       a `&mut [T]` in a local is lent again: its pointer; the slice of that pointer and the same length
---     sets, sets-behind        a local that was room is set; what lies behind a reference that is in a local is overwritten
+--     sets             a local that was room is set.        sets-behind, sets-within     what lies behind a reference that is in a local is
+--                      overwritten; a field of it is
 -- They take `Given`.
 use mathlib.Core.Path.{_≡_, sym, subst}
 use Prim.Native.Nat.{ℕ, zero, _+_}
@@ -20,8 +22,8 @@ use prog.Memory.{fieldOf, fieldAt}
 use prog.Wp.{Heap, Env, Calls, Loops, spotOf}
 use ghost.Atoms.{Atoms}
 use types.Kit.{Given, Item, ‵, nth, put, Post, runs, Step}
-use types.Run.{Reads, Opd, Rv, look, look-raw, init, store-raw, stop, hop, fld, from, load, addr, and-then, no-more, assigns}
-use types.Part.{Part, agg, whole, sub, look-in}
+use types.Run.{Reads, Opd, Rv, look, init, store-raw, stop, hop, fld, from, load, addr, and-then, no-more, assigns}
+use types.Part.{Part, agg, whole, sub, look-in, store-in}
 
 -- local i holds a value, to a share; and it is room
 module _ {M : Type 1} (𝓤 : URA M) (H : Heap 𝓤) (E : Env 𝓤 H) (i : ℕ) where
@@ -42,9 +44,15 @@ module _ {M : Type 1} {𝓤 : URA M} {H : Heap 𝓤} {A : Atoms 𝓤} {K : Type 
     pub local-at : K → (n : ℕ) {i : ℕ} {q : Share} {v : Val} → nth 𝓤 H A n Γ ≡ ‵ (holds 𝓤 H E i q v) → Opd K W Γ E (copy (place i [])) v
     local-at t n e = load t (from t (stop t)) (look t n e)
 
-    pub behind-at : K → (n m : ℕ) {i : ℕ} {q s : Share} {τ : Ty} {b o : ℕ} {v : Val} → nth 𝓤 H A n Γ ≡ ‵ (holds 𝓤 H E i q (vptr b o))
-        → nth 𝓤 H A m Γ ≡ ‵ (fat s (rawTy τ) b o v) → Opd K W Γ E (copy (place i (deref τ ∷ []))) v
-    behind-at t n m e e′ = load t (from t (hop t (look t n e) (stop t))) (look-raw t m e′)
+    module _ {i : ℕ} {q : Share} {ν : Sym} {τs : Tys} {τ : Ty} {b o d : ℕ} where
+      pub lent-within : K → (n k : ℕ) → nth 𝓤 H A n Γ ≡ ‵ (holds 𝓤 H E i q (vptr b o)) → fieldAt zero τs k ≡ some (τ, d)
+          → Rv K W Γ E (addrOf (place i (deref (tyStruct ν τs) ∷ field k ∷ []))) (vptr b (o + d))
+      lent-within t n k e at = addr t (from t (hop t (look t n e) (fld t at (stop t))))
+
+      pub within-at : K → (n m k : ℕ) {s : Share} {vs : Vals} → nth 𝓤 H A n Γ ≡ ‵ (holds 𝓤 H E i q (vptr b o))
+          → nth 𝓤 H A m Γ ≡ ‵ (fat s (tyStruct ν τs) b o (vstruct vs)) → fieldAt zero τs k ≡ some (τ, d)
+          → Opd K W Γ E (copy (place i (deref (tyStruct ν τs) ∷ field k ∷ []))) (getV vs k)
+      within-at t n m k e e′ at = load t (from t (hop t (look t n e) (fld t at (stop t)))) (part-at t m k e′ at)
 
     pub field-of : K → {i k d : ℕ} {τ : Ty} {v : Val} → fieldOf (spotOf 𝓤 H E i .0) k ≡ some (τ, d)
         → Reads K W Γ τ (spotOf 𝓤 H E i .1) (spotOf 𝓤 H E i .2 + d) v → Opd K W Γ E (copy (place i (field k ∷ []))) v
@@ -69,3 +77,14 @@ module _ {M : Type 1} {𝓤 : URA M} {H : Heap 𝓤} {A : Atoms 𝓤} {K : Type 
           → Step K W (put 𝓤 H A m (‵ (fat fullShare (rawTy τ) b o v)) Γ) (runs C Λ E rest q)
           Γ (runs C Λ E (seq (assign (place i (deref τ ∷ [])) rv) rest) q)
       sets-behind t r n m e e′ typed = assigns t r (from t (hop t (look t n e) (stop t))) (store-raw t m e′ typed)
+
+      pub sets-within : K → Rv K W Γ E rv v → (n m k : ℕ) {s : Share} {ν : Sym} {τs : Tys} {τ : Ty} {b o d : ℕ} {vs : Vals}
+          → nth 𝓤 H A n Γ ≡ ‵ (holds 𝓤 H E i s (vptr b o)) → nth 𝓤 H A m Γ ≡ ‵ (fat fullShare (tyStruct ν τs) b o (vstruct vs))
+          → fieldAt zero τs k ≡ some (τ, d) → T (hasTy τ v) × WT v
+          → Step K W (put 𝓤 H A m (‵ (fat fullShare (tyStruct ν τs) b o (vstruct (setV vs k v)))) Γ) (runs C Λ E rest q)
+          Γ (runs C Λ E (seq (assign (place i (deref (tyStruct ν τs) ∷ field k ∷ [])) rv) rest) q)
+      sets-within t r n m k {ν = ν} {τs} {τ} {b} {o} {d} {vs} e e′ at typed =
+          assigns t r (from t (hop t (look t n e) (fld t at (stop t))))
+          (store-in t m (subst (λ (j : Item 𝓤).
+          Part K W j fullShare τ b (o + d) (getV vs k) (λ u. ‵ (fat fullShare (tyStruct ν τs) b o (vstruct (setV vs k u)))))
+          (sym e′) (sub t k at (whole t))) typed)
