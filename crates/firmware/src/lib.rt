@@ -1,5 +1,5 @@
 // The firmware's form of the calls: it lends the controller's record and has it changed there. Thin calls over the engine,
-// which takes the record by value, for C and Rust to link.
+// which takes the drives by value and is lent the buffer, and makes a record by value, for C and Rust to link.
 use engine::reset::fresh;
 use engine::reset::reset;
 use engine::run::execute_on;
