@@ -5,6 +5,7 @@ pub mod Formatting
 pub mod Configurations
 pub mod Initializing
 pub mod Damage
+pub mod DamageEnds
 pub mod Session
 pub mod Floppies
 pub mod Leaves

@@ -25,14 +25,14 @@ use Rattle.formatter.specs.Format.{slotMade, slotsMade, formatted}
 use Rattle.formatter.specs.Check.{idIs, idsAre, homeState, checkedOn, checkCode}
 use Rattle.sectors.specs.Transfer.{begun, ended, readSlot, writeSlot, onward, found, reading, writing}
 
-p : Params
+unfoldable pub p : Params
 p = record { cylinders = 2; heads = 2; sectors = 3; size = 1 }
 
-slot : (a b c d e f g h i : ℕ) → List ℕ
+unfoldable pub slot : (a b c d e f g h i : ℕ) → List ℕ
 slot a b c d e f g h i = a ∷ b ∷ c ∷ d ∷ e ∷ f ∷ g ∷ h ∷ i ∷ []
 
 -- ---- Track 0 sound, 1 bad, 2 moved to 3, 3 taken by 2; interleave 2, so that sectors 0, 2, 1 are in slots 0, 1, 2
-whole : List ℕ
+unfoldable pub whole : List ℕ
 whole =
     replicate 16 0xEE
     ++ slot 0xA1 0 0 0 0 0 0 0 0x6C ++ slot 0xA1 0 0 0 2 0 0 0 0x6C ++ slot 0xA1 0 0 0 1 0 0 0 0x6C
@@ -49,7 +49,7 @@ unfolding p slot whole made withTrack splice formatted slotsMade slotMade rows w
 formats = refl
 
 -- byte i of slot k of track t is v
-hurt : (t k i v : ℕ) → List ℕ → List ℕ
+unfoldable pub hurt : (t k i v : ℕ) → List ℕ → List ℕ
 hurt t k i v image = set image (16 + t * 27 + k * 9 + i) v
 
 -- ---- Finding: a sector of a track of an image, and what is found

@@ -143,10 +143,13 @@ cut-short =
 pub at-fault : List Line
 at-fault =
     all (
-    -- track 2 is bad; another interleave than track 1's; too many tracks
+    -- track 2 is bad; an alternate past 1Fh, past the end, A itself; another interleave than track 1's; too many tracks
     (plain 0x07 64 1 good ∷ [])
     ∷ tried (plain 0x05 70 1 bad) (four 0x99 0 0 70) (both 1 2)
     ∷ tried (sent (six 0x0E 0 0 37 1 0) (0 ∷ 0 ∷ 70 ∷ []) bad) (four 0x9F 0 0 70) (both 1 2)
+    ∷ tried (sent (six 0x0E 0 0 37 1 0) (0x20 ∷ 0 ∷ 5 ∷ []) bad) (four 0x22 0 0 0) (both 1 2)
+    ∷ tried (sent (six 0x0E 0 0 37 1 0) (0 ∷ 0 ∷ 96 ∷ []) bad) (four 0xA1 0 0 96) (both 1 2)
+    ∷ tried (sent (six 0x0E 0 0 37 1 0) (0 ∷ 0 ∷ 40 ∷ []) bad) (four 0x22 0 0 0) (both 1 2)
     ∷ tried (plain 0x05 37 6 bad) (four 0x9A 0 0 37) (both 1 2)
     ∷ tried (sent (six 0x11 0 0 0 0 0) (config 4) bad) (four 0x22 0 0 0) (both 1 2)
     ∷ tried (plain 0x05 37 1 good) clear (both 1 2)
@@ -166,7 +169,11 @@ in-pairs =
     ∷ tried (plain 0x07 70 5 bad) (four 0x9C 0 0 70) (both 1 2)
     ∷ tried (plain 0x04 70 5 bad) (four 0x9D 0 0 70) (both 1 2)
     ∷ tried (sent (six 0x0E 0 0 5 1 0) (0 ∷ 0 ∷ 37 ∷ []) bad) (four 0x9F 0 0 37) (both 1 2)
+    ∷ tried (sent (six 0x0E 0 0 37 1 0) (0 ∷ 0 ∷ 5 ∷ []) bad) (four 0x9D 0 0 37) (both 1 2)
+    ∷ tried (sent (six 0x0E 0 0 70 1 0) (0 ∷ 0 ∷ 5 ∷ []) bad) (four 0x9C 0 0 70) (both 1 2)
+    ∷ tried (sent (six 0x0E 0 0 5 1 0) (0 ∷ 0 ∷ 70 ∷ []) bad) (four 0x9D 0 0 70) (both 1 2)
     ∷ tried (plain 0x08 70 1 bad) (four 0x9C 0 0 70) (both 1 2)
+    ∷ tried (sent (six 0x0A 0 0 70 1 0) (replicate 256 3) bad) (four 0x9C 0 0 70) (both 1 2)
     ∷ tried (plain 0x05 37 5 good) clear (both 1 2)
     ∷ []
     )
