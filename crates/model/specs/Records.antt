@@ -82,7 +82,7 @@ NoneWithoutParameters =
     → settingIn (mediumOf d) (driveAt c d) (length (imageOf d images)) ≡ Invalid
     → imageOf d (execute c block given area images .images) ≡ imageOf d images
 
--- ---- What a Write counts as done reads as the data given, sector i of them at the i-th address; with good status all are done.
+-- ---- What a Write counts as done reads as the data given, sector i of them at the i-th address.
 unfoldable pub WrittenReads : Type 0
 WrittenReads =
     (c : Controller) (block given area : List ℕ) (images : List (List ℕ)) (p : Params)
@@ -90,9 +90,19 @@ WrittenReads =
     length block ≡ 6 → rowFor (b .opcode) .command ≡ OnDisk (SectorWork Write)
     → settingIn (mediumOf (b .drive)) (driveAt c (b .drive)) (length (imageOf (b .drive) images)) ≡ Valid p
     → let r = execute c block given area images in
-    ((i : ℕ) → i < r .outcome .answer .sectors
-    → contentOf p (further (b .address) i) (imageOf (b .drive) (r .images)) ≡ Bytes (part (i * p .size) (p .size) given))
-    × (isGood (b .drive) (r .outcome .answer) ≡ true → r .outcome .answer .sectors ≡ countOf b)
+    (i : ℕ) → i < r .outcome .answer .sectors
+    → contentOf p (further (b .address) i) (imageOf (b .drive) (r .images)) ≡ Bytes (part (i * p .size) (p .size) given)
+
+-- A Write with good status had parameters in force, and has done all its sectors.
+unfoldable pub GoodWrites : Type 0
+GoodWrites =
+    (c : Controller) (block given area : List ℕ) (images : List (List ℕ))
+    → let b = blockOf block in
+    length block ≡ 6 → rowFor (b .opcode) .command ≡ OnDisk (SectorWork Write)
+    → let r = execute c block given area images in
+    isGood (b .drive) (r .outcome .answer) ≡ true
+    → (p : Params) × (settingIn (mediumOf (b .drive)) (driveAt c (b .drive)) (length (imageOf (b .drive) images)) ≡ Valid p)
+    × (r .outcome .answer .sectors ≡ countOf b)
 
 -- ---- Two addresses never share a slot, on any image.
 unfoldable pub SlotsApart : Type 0

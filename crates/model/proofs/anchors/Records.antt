@@ -38,9 +38,9 @@ use Rattle.model.specs.Commands.{plainByte, plainFill, fillOf, madeAt, d
 use Rattle.model.specs.Commands.{initialized, initializedBy, initialize, doFree, doTrack, doSectors, asEffect, doDisk, carryOut}
 use Rattle.model.specs.Engine.{viewOf, obey, Result, imagesOf, imageOf, left, onDrive, execute, loadedBy, loaded, fresh, resetOf}
 use Rattle.model.specs.Records.{isGood, oneTrack, onTracks, namedBy, named, NoOtherRecord, WrittenReads}
-use Rattle.model.specs.Records.{NoneWithoutParameters, Is, LabelStays, ParametersStay, PastStays}
+use Rattle.model.specs.Records.{GoodWrites, NoneWithoutParameters, Is, LabelStays, ParametersStay, PastStays}
 use Rattle.model.specs.declared.record.Answer.{Answer}
-use Rattle.model.proofs.records.Calls.{no-other-record, written-reads, none-without-parameters, past-stays}
+use Rattle.model.proofs.records.Calls.{no-other-record, written-reads, good-writes, none-without-parameters, past-stays}
 use Rattle.model.proofs.records.Places.{label-stays, parameters-stay}
 
 p : Params
@@ -88,6 +88,7 @@ facts :
     × (imageOf 3 (made .images) ≡ replicate 20 5)
     × (settingIn (mediumOf 3) (driveAt (made .outcome .controller) 3) (length (imageOf 3 (made .images))) ≡ Invalid)
     × (isGood 2 (wrote .outcome .answer) ≡ true)
+    × (driveAt (made .outcome .controller) 2 .known ≡ true)
 unfolding p start then block config sectors made wrote lba pick part splice rows firstFrom firstBelow isSome someBelow sameBytes
     mediumOf isFloppy isIn rangesOf sizeFor fittedTo fieldsIn settingBy settingOf isValid labelSetting labelHolds emptyFrom layAt place laid layoutOf
     idBytes idIn idFor ownId withSector flagOf partnerOf isMoved isTaken trackBytes withTrack slotId slotData withData firstId
@@ -97,7 +98,7 @@ unfolding p start then block config sectors made wrote lba pick part splice rows
     addressed senseOf blankDrive driveAt sensed settingIn failed good unless plainByte plainFill fillOf madeAt driveFormatted pendingEnded formatDrive
     aloneTests formatTrack transferEnding transferred write initialized initializedBy initialize doFree doTrack doSectors asEffect doDisk carryOut
     viewOf obey imageOf left onDrive execute loadedBy loaded fresh resetOf isGood
-facts = (refl, refl, refl, refl, refl, refl, refl, refl, refl, refl)
+facts = (refl, refl, refl, refl, refl, refl, refl, refl, refl, refl, refl)
 
 and-off : (x : Bool) → (x && false) ≡ false
 and-off true = refl
@@ -122,9 +123,9 @@ unfolding p lba wrote remade then block blockOf rowFor NoOtherRecord WrittenRead
 reads =
     let c = made .outcome .controller in
     let first : contentOf p (lba 15) (imageOf 2 (wrote .images)) ≡ Bytes (part 0 128 sectors) =
-    written-reads c (block 0x0A 15 2) sectors [] (made .images) p refl refl (facts .0) .0 0 (omega (arith, facts .2)) in
+    written-reads c (block 0x0A 15 2) sectors [] (made .images) p refl refl (facts .0) 0 (omega (arith, facts .2)) in
     let second : contentOf p (lba 16) (imageOf 2 (wrote .images)) ≡ Bytes (part 128 128 sectors) =
-    written-reads c (block 0x0A 15 2) sectors [] (made .images) p refl refl (facts .0) .0 1 (omega (arith, facts .2)) in
+    written-reads c (block 0x0A 15 2) sectors [] (made .images) p refl refl (facts .0) 1 (omega (arith, facts .2)) in
     let other : contentOf p (lba 17) (imageOf 2 (wrote .images)) ≡ contentOf p (lba 17) (imageOf 2 (made .images)) =
     no-other-record c (block 0x0A 15 2) sectors [] (made .images) 2 p (facts .0) (lba 17) (omega arith) (spared .0 _ (facts .2)) in
     let across : contentOf p (lba 15) (imageOf 2 (remade .images)) ≡ contentOf p (lba 15) (imageOf 2 (wrote .images)) =
@@ -147,7 +148,9 @@ stays :
     × (part 4368 2 (imageOf 2 (wrote .images)) ≡ 0xEE ∷ 0xED ∷ [])
     × (imageOf 3 (wrote .images) ≡ replicate 20 5)
     × (wrote .outcome .answer .sectors ≡ countOf (blockOf (block 0x0A 15 2)))
-unfolding p wrote then LabelStays ParametersStay PastStays NoneWithoutParameters WrittenReads block blockOf rowFor
+    × (driveAt (wrote .outcome .controller) 2 .known ≡ true)
+    × (length (imageOf 2 (wrote .images)) ≡ length (imageOf 2 (made .images)))
+unfolding p wrote then LabelStays ParametersStay PastStays NoneWithoutParameters GoodWrites block blockOf rowFor
 stays =
     let c = made .outcome .controller in
     let save = block 0x0A 15 2 in (
@@ -155,5 +158,7 @@ stays =
       parameters-stay c save sectors [] (made .images) 2 (other-command _ .1) .0 ∙ facts .6,
       past-stays c save sectors [] (made .images) 2 .1 p (facts .0) 4368 2 (omega arith) ∙ facts .5,
       none-without-parameters c save sectors [] (made .images) 3 (facts .8) ∙ facts .7,
-      written-reads c save sectors [] (made .images) p refl refl (facts .0) .1 (facts .9),
+      good-writes c save sectors [] (made .images) refl refl (facts .9) .2,
+      parameters-stay c save sectors [] (made .images) 2 (other-command _ .1) .1 ∙ facts .10,
+      past-stays c save sectors [] (made .images) 2 .0,
     )

@@ -1,7 +1,7 @@
 -- What each command can leave. Numbers 1, 2 and 3 and no others refuse, and a refusal changes nothing at all.
 use Prim.Native.Nat.{ℕ, zero, suc, _+_, _*_, _≤_}
-use mathlib.Core.Path.{_≡_, refl}
-use mathlib.Core.Bool.{Bool, true, false, not}
+use mathlib.Core.Path.{_≡_, refl, sym}
+use mathlib.Core.Bool.{Bool, true, false, not, true≢false}
 use mathlib.Core.List.{List, [], _∷_}
 use native.Mathlib.Omega.{arith}
 use lib.ListN.{length, set, take, drop}
@@ -14,11 +14,13 @@ use Rattle.geometry.specs.declared.params.Lba.{Lba}
 use Rattle.geometry.specs.declared.params.Params.{Params}
 use Rattle.geometry.specs.declared.config.Setting.{Setting}
 use Rattle.geometry.specs.declared.config.Setting.the-variants.{Valid, Invalid}
-use Rattle.geometry.specs.Params.{next}
+use Rattle.geometry.specs.Params.{next, further, trackOf}
 use Rattle.geometry.specs.Medium.{mediumOf}
 use Rattle.geometry.specs.Config.{labelHolds}
 use Rattle.track.specs.declared.find.Sector.{Sector}
 use Rattle.track.specs.declared.find.Sector.the-variants.{Slot, Fault}
+use Rattle.interleave.specs.Layout.{layoutOf}
+use Rattle.formatter.specs.Check.{checkCode}
 use Rattle.sectors.specs.Transfer.{Transfer, begun, ended, readSlot, writeSlot, onward, found, reading, writing}
 use Rattle.model.specs.declared.block.Block.{Block}
 use Rattle.model.specs.declared.table.Command.{Command}
@@ -70,14 +72,13 @@ isPlain (OnDisk (SectorWork command)) = true
 isPlain Unknown = false
 
 -- Any command can end with a code, which is in the sense then.
-pub data Makes (b : Block) (entry : Drive) (image : List ℕ) : Command → (status : ℕ) → Drive → Type 0 where
-  coded : {command : Command} (code : ℕ) (at : Lba) → Makes b entry image command (2 + 32 * b .drive) (sensed (senseOf code (b .drive) at) entry)
-  cleared : {command : Command} → isPlain command ≡ true → Makes b entry image command (32 * b .drive) (sensed (clear b) entry)
-  kept : Makes b entry image (Free RequestSense) (32 * b .drive) entry
-  initial : (config : List ℕ)
-      → Makes b entry image (Free Initialize) (32 * b .drive)
-      (sensed (clear b) (initialized config (not (labelHolds (mediumOf (b .drive)) image config)) entry))
-  formatted : Makes b entry image (OnDisk (TrackWork FormatDrive)) (32 * b .drive) (sensed (clear b) (pendingEnded entry))
+pub data Makes (b : Block) (given : List ℕ) (entry : Drive) (image : List ℕ) : Command → (status : ℕ) → Drive → Type 0 where
+  coded : {command : Command} (code : ℕ) (at : Lba) → 1 ≤ code → Makes b given entry image command (2 + 32 * b .drive) (sensed (senseOf code (b .drive) at) entry)
+  cleared : {command : Command} → isPlain command ≡ true → Makes b given entry image command (32 * b .drive) (sensed (clear b) entry)
+  kept : Makes b given entry image (Free RequestSense) (32 * b .drive) entry
+  initial : Makes b given entry image (Free Initialize) (32 * b .drive)
+      (sensed (clear b) (initialized (part 0 10 given) (not (labelHolds (mediumOf (b .drive)) image (part 0 10 given))) entry))
+  formatted : Makes b given entry image (OnDisk (TrackWork FormatDrive)) (32 * b .drive) (sensed (clear b) (pendingEnded entry))
 
 -- ---- Of the buffer: Write Buffer takes the data given, Read and Write change its front, every other command leaves it
 unfoldable pub sparesBuffer : Command → Bool
@@ -129,7 +130,7 @@ pub data Writes (image : List ℕ) : Command → List ℕ → Type 0 where
 pub record LeavesBy (b : Block) (given : List ℕ) (entry : Drive) (buffer image : List ℕ) (command : Command) (e : Effect) : Type 0 where
   pub number : e .ending .answer .number ≡ 0
   pub bytes : e .ending .answer .bytes ≡ length (e .handed)
-  pub makes : Makes b entry image command (e .ending .answer .status) (e .ending .entry)
+  pub makes : Makes b given entry image command (e .ending .answer .status) (e .ending .entry)
   pub fills : Fills b given buffer command (e .ending .answer .status) (e .buffer)
   pub hands : Hands b entry buffer command (e .ending .answer .status) (e .handed)
   pub writes : Writes image command (e .image)
@@ -138,37 +139,50 @@ pub record LeavesBy (b : Block) (given : List ℕ) (entry : Drive) (buffer image
 pub data Verdicts : (refusals : Bool) → Verdict → Type 0 where
   second : Verdicts true (Refused 2)
   third : Verdicts true (Refused 3)
-  fault : {refusals : Bool} (code : ℕ) (at : Lba) → Verdicts refusals (Faulty code at)
+  fault : {refusals : Bool} (code : ℕ) (at : Lba) → 1 ≤ code → Verdicts refusals (Faulty code at)
   pass : {refusals : Bool} → Verdicts refusals Passed
 
-picked : {refusals : Bool} (b : Bool) {x y : Verdict} → Verdicts refusals x → Verdicts refusals y → Verdicts refusals (pick b x y)
+picked : {refusals : Bool} (b : Bool) {x y : Verdict} → (b ≡ true → Verdicts refusals x) → Verdicts refusals y → Verdicts refusals (pick b x y)
 unfolding pick
-picked true hx hy = hx
+picked true hx hy = hx refl
 picked false hx hy = hy
 
 -- tests that can give such a verdict
 data Tests : (refusals : Bool) → List Test → Type 0 where
   done : {refusals : Bool} → Tests refusals []
-  faults : {refusals : Bool} {hit : Bool} {code : ℕ} {at : Lba} {tests : List Test} → Tests refusals tests → Tests refusals (on hit code at ∷ tests)
+  faults : {refusals : Bool} {hit : Bool} {code : ℕ} {at : Lba} {tests : List Test} → (hit ≡ true → 1 ≤ code) → Tests refusals tests
+      → Tests refusals (on hit code at ∷ tests)
   seconds : {hit : Bool} {tests : List Test} → Tests true tests → Tests true (refuses hit 2 ∷ tests)
   thirds : {hit : Bool} {tests : List Test} → Tests true tests → Tests true (refuses hit 3 ∷ tests)
+
+-- a code that is written out is not 0; nor is one that a test has looked at
+some : {hit : Bool} {code : ℕ} → hit ≡ true → 1 ≤ suc code
+some hit = omega arith
+
+not-zero : (code : ℕ) → not (eqb code 0) ≡ true → 1 ≤ code
+not-zero zero hit = let clash : true ≡ false = sym hit in absurd (true≢false clash)
+not-zero (suc code) hit = omega arith
 
 judged-by : {refusals : Bool} {tests : List Test} → Tests refusals tests → Verdicts refusals (judged tests)
 unfolding judged
 judged-by done = pass
-judged-by (faults rest) = picked _ (fault _ _) (judged-by rest)
-judged-by (seconds rest) = picked _ second (judged-by rest)
-judged-by (thirds rest) = picked _ third (judged-by rest)
+judged-by (faults some rest) = picked _ (λ hit. fault _ _ (some hit)) (judged-by rest)
+judged-by (seconds rest) = picked _ (λ hit. second) (judged-by rest)
+judged-by (thirds rest) = picked _ (λ hit. third) (judged-by rest)
+
+check-judged : (code : ℕ) (a : Lba) → Verdicts false (judged (checkTests code a))
+unfolding checkTests
+check-judged code a = judged-by (faults (not-zero code) done)
 
 pub judge-by : (b : Block) (v : View) (given area : ℕ) → Verdicts true (judge b v given area)
 unfolding judge inOrder
-judge-by b v given area = judged-by (faults (faults (faults (faults (faults (faults (faults (seconds (thirds done)))))))))
+judge-by b v given area = judged-by (faults some (faults some (faults some (faults some (faults some (faults some (faults some (seconds (thirds done)))))))))
 
 -- own checks: what holds of a command that has failed or passed them holds
 own : {A : Type 0} (P : A → Type 0) (drive : ℕ) (entry : Drive) (keep : Ending → A) (after : A) {v : Verdict} → Verdicts false v
-    → ((code : ℕ) (at : Lba) → P (keep (failed drive drive code at 0 0 entry))) → P after → P (unless v drive entry keep after)
+    → ((code : ℕ) (at : Lba) → 1 ≤ code → P (keep (failed drive drive code at 0 0 entry))) → P after → P (unless v drive entry keep after)
 unfolding unless
-own P drive entry keep after (fault code at) failing passing = failing code at
+own P drive entry keep after (fault code at some) failing passing = failing code at some
 own P drive entry keep after pass failing passing = passing
 
 -- ---- A Read changes no image, a Write hands nothing over
@@ -197,7 +211,7 @@ module _ (b : Block) (given : List ℕ) (entry : Drive) (buffer image : List ℕ
   abbrev LeavesAs : Command → Effect → Type 0
   LeavesAs = LeavesBy b given entry buffer image
 
-  good-makes : {command : Command} → isPlain command ≡ true → Makes b entry image command (32 * b .drive) (sensed (senseOf 0 (b .drive) (record { 0 = 0 })) entry)
+  good-makes : {command : Command} → isPlain command ≡ true → Makes b given entry image command (32 * b .drive) (sensed (senseOf 0 (b .drive) (record { 0 = 0 })) entry)
   unfolding senseOf addressed pick
   good-makes only = cleared only
 
@@ -225,24 +239,24 @@ module _ (b : Block) (given : List ℕ) (entry : Drive) (buffer image : List ℕ
   fault-hands (OnDisk (SectorWork Write)) = nothing refl
   fault-hands Unknown = nothing refl
 
-  faulty : (command : Command) (code : ℕ) (at : Lba) → LeavesAs command (effect (failed (b .drive) (b .drive) code at 0 0 entry) buffer [] image)
+  faulty : (command : Command) (code : ℕ) (at : Lba) → 1 ≤ code → LeavesAs command (effect (failed (b .drive) (b .drive) code at 0 0 entry) buffer [] image)
   unfolding failed
-  faulty command code at =
-      record { number = refl; bytes = refl; makes = coded code at; fills = fault-fills command; hands = fault-hands command; writes = untouched }
+  faulty command code at some =
+      record { number = refl; bytes = refl; makes = coded code at some; fills = fault-fills command; hands = fault-hands command; writes = untouched }
 
   -- ---- Free
-  configured : (s : Setting) (config : List ℕ) → LeavesAs (Free Initialize) (effect (initializedBy s b config entry image) buffer [] image)
+  configured : (s : Setting) → LeavesAs (Free Initialize) (effect (initializedBy s b (part 0 10 given) entry image) buffer [] image)
   unfolding initializedBy good senseOf addressed pick sparesBuffer isQuiet
-  configured Invalid config = faulty (Free Initialize) 0x22 (b .address)
-  configured (Valid p) config =
-      record { number = refl; bytes = refl; makes = initial config; fills = as-was refl; hands = nothing refl; writes = untouched }
+  configured Invalid = faulty (Free Initialize) 0x22 (b .address) (omega arith)
+  configured (Valid p) =
+      record { number = refl; bytes = refl; makes = initial; fills = as-was refl; hands = nothing refl; writes = untouched }
 
   free-ends : (command : FreeCommand) → LeavesAs (Free command) (doFree b given entry buffer image command)
   unfolding doFree initialize good senseOf addressed pick isPlain sparesBuffer isQuiet
   free-ends RequestSense = record { number = refl; bytes = refl; makes = kept; fills = as-was refl; hands = own-sense; writes = untouched }
   free-ends WriteBuffer = record { number = refl; bytes = refl; makes = cleared refl; fills = taken; hands = nothing refl; writes = untouched }
   free-ends ReadBuffer = record { number = refl; bytes = refl; makes = cleared refl; fills = as-was refl; hands = own-buffer; writes = untouched }
-  free-ends Initialize = configured _ _
+  free-ends Initialize = configured _
 
   -- ---- On the disk
   arm-ends : (command : ArmCommand) → LeavesAs (OnDisk (ArmWork command)) (effect (doArm b entry command) buffer [] image)
@@ -263,30 +277,38 @@ module _ (b : Block) (given : List ℕ) (entry : Drive) (buffer image : List ℕ
     track-ends : (command : TrackCommand) → LeavesAs (OnDisk (TrackWork command)) (asEffect buffer (doTrack b p buffer given entry image command))
     unfolding doTrack asEffect formatDrive checkTrack checkTests formatTrack aloneTests assignAlternate assignTests good senseOf addressed pick isPlain sparesBuffer isQuiet
     track-ends FormatDrive =
-        by-own FormatDrive _ (judged-by (faults done))
+        by-own FormatDrive _ (judged-by (faults some done))
         (record { number = refl; bytes = refl; makes = formatted; fills = as-was refl; hands = nothing refl; writes = drive-format _ })
     track-ends CheckTrack =
-        own (λ (x : Ending). LeavesAs (OnDisk (TrackWork CheckTrack)) (effect x buffer [] image)) (b .drive) entry (λ e. e) _ (judged-by (faults done))
+        own (λ (x : Ending). LeavesAs (OnDisk (TrackWork CheckTrack)) (effect x buffer [] image)) (b .drive) entry (λ e. e)
+        (good (b .drive) 0 0 entry)
+        (check-judged (checkCode p (trackOf p (b .address)) (layoutOf (p .sectors) (b .extra)) image) (b .address))
         (faulty (OnDisk (TrackWork CheckTrack))) (record { number = refl; bytes = refl; makes = cleared refl; fills = as-was refl; hands = nothing refl; writes = untouched })
     track-ends FormatTrack =
-        by-own FormatTrack _ (judged-by (faults (faults done)))
+        by-own FormatTrack _ (judged-by (faults some (faults some done)))
         (record { number = refl; bytes = refl; makes = cleared refl; fills = as-was refl; hands = nothing refl; writes = track-format _ })
     track-ends FormatBadTrack =
-        by-own FormatBadTrack _ (judged-by (faults (faults done)))
+        by-own FormatBadTrack _ (judged-by (faults some (faults some done)))
         (record { number = refl; bytes = refl; makes = cleared refl; fills = as-was refl; hands = nothing refl; writes = bad-format _ })
     track-ends AssignAlternate =
-        by-own AssignAlternate _ (judged-by (faults (faults (faults (faults (faults (faults (faults done))))))))
+        by-own AssignAlternate _ (judged-by (faults some (faults some (faults some (faults some (faults some (faults some (faults some done))))))))
         (record { number = refl; bytes = refl; makes = cleared refl; fills = as-was refl; hands = nothing refl; writes = alternate _ })
 
     -- a transfer's end, whatever its code
     Finishes : (bytes : ℕ) → (command : Command) → Ending → Type 0
-    Finishes bytes command x = (x .answer .number ≡ 0) × (x .answer .bytes ≡ bytes) × Makes b entry image command (x .answer .status) (x .entry)
+    Finishes bytes command x = (x .answer .number ≡ 0) × (x .answer .bytes ≡ bytes) × Makes b given entry image command (x .answer .status) (x .entry)
 
     finishes : (sectors code bytes : ℕ) (command : SectorCommand)
         → Finishes bytes (OnDisk (SectorWork command)) (transferEnding b sectors code bytes entry)
-    unfolding Finishes transferEnding good failed isPlain
+    unfolding Finishes transferEnding good failed isPlain pick
     finishes sectors code bytes command =
-        pick-both (Finishes bytes (OnDisk (SectorWork command))) _ _ _ (refl, refl, good-makes refl) (refl, refl, coded code _)
+        by (eqb code 0) refl
+      where
+        by : (none : Bool) → eqb code 0 ≡ none
+            → Finishes bytes (OnDisk (SectorWork command))
+            (pick none (good (b .drive) sectors bytes entry) (failed (b .drive) (b .drive) code (further (b .address) sectors) sectors bytes entry))
+        by true e = (refl, refl, good-makes refl)
+        by false e = (refl, refl, coded code _ (not-zero code (rw e)))
 
     sectors-end : (command : SectorCommand) → LeavesAs (OnDisk (SectorWork command)) (doSectors b p given entry buffer image command)
     unfolding doSectors read write transferred begun Finishes isQuiet
@@ -322,9 +344,9 @@ module _ (b : Block) (given : List ℕ) (entry : Drive) (buffer image : List ℕ
   carried-ends : (s : Setting) (command : Command) → LeavesAs command (carryOut b s given entry buffer image command)
   unfolding carryOut
   carried-ends s (Free command) = free-ends command
-  carried-ends Invalid (OnDisk command) = faulty (OnDisk command) 0x0A (b .address)
+  carried-ends Invalid (OnDisk command) = faulty (OnDisk command) 0x0A (b .address) (omega arith)
   carried-ends (Valid p) (OnDisk command) = disk-ends p command
-  carried-ends s Unknown = faulty Unknown 0x20 (b .address)
+  carried-ends s Unknown = faulty Unknown 0x20 (b .address) (omega arith)
 
 -- ---- So a command is refused with 2 or 3, leaves entry, buffer and image and hands nothing over, or it ends with number 0
 pub data Obeyed (b : Block) (given : List ℕ) (entry : Drive) (buffer image : List ℕ) (command : Command) (e : Effect) : Type 0 where
@@ -338,7 +360,7 @@ module _ (b : Block) (given : List ℕ) (entry : Drive) (buffer image : List ℕ
   unfolding unless
   verdict-obeyed after second h = denied 2 (omega arith) (omega arith) refl
   verdict-obeyed after third h = denied 3 (omega arith) (omega arith) refl
-  verdict-obeyed after (fault code at) h = answered (faulty b given entry buffer image command code at)
+  verdict-obeyed after (fault code at some) h = answered (faulty b given entry buffer image command code at some)
   verdict-obeyed after pass h = answered h
 
 pub obeyed : (b : Block) (given : List ℕ) (area : ℕ) (entry : Drive) (buffer image : List ℕ)

@@ -37,7 +37,7 @@ use Rattle.model.specs.Commands.{transferred, write, doSectors, doDisk, 
 use Rattle.model.specs.Engine.{Result, viewOf, obey, imageOf, left, onDrive, execute}
 use Rattle.model.proofs.engine.Leaving.{Makes, Fills, Hands, LeavesBy, Writes, untouched as as-lent, Obeyed, answered, denied, obeyed, images-kept}
 use Rattle.model.proofs.engine.Leaving.{unmoved, Answered, accepted, unchanged, all-answered}
-use Rattle.model.proofs.engine.Assembled.{drive-below, own-entry, other-entry}
+use Rattle.model.proofs.engine.Assembled.{drive-below, own-entry, other-entry, other-image}
 use Rattle.model.proofs.engine.Beyond.{unless-left}
 use Rattle.model.proofs.engine.Written.{Written, written-none, writes}
 use Rattle.model.proofs.records.Calls.{good-image, to-write, six-bytes, its-image}
@@ -56,8 +56,8 @@ module _ (c : Controller) (block given area : List ℕ) (images : List (List ℕ
       by (accepted z) = absurd (omega arith)
       by (unchanged number least most is) = rw is (most, refl)
 
--- ---- (b) Number 0: entry, buffer and bytes handed over are what the command makes of them, by its status
-module _ (c : Controller) (block given area : List ℕ) (images : List (List ℕ)) (six : length block ≡ 6) (four : length (c .drives) ≡ 4) where
+-- ---- (b) Number 0: entry, buffer, bytes handed over and image are what the command makes of them, by its status
+module _ (c : Controller) (block given area : List ℕ) (images : List (List ℕ)) (six : length block ≡ 6) where
   abbrev b : Block
   b = blockOf block
 
@@ -86,12 +86,13 @@ module _ (c : Controller) (block given area : List ℕ) (images : List (List ℕ
       by (denied number least most is) z =
           let same : done .ending .answer .number ≡ number = ap (λ (e : Effect). e .ending .answer .number) is in absurd (omega (arith, same, z))
 
-  entry-left : after .outcome .answer .number ≡ 0
-      → Makes b entry (imageOf (b .drive) images) command (after .outcome .answer .status) (driveAt (after .outcome .controller) (b .drive))
+  -- a record has four entries, as its type in the code says
+  entry-left : length (c .drives) ≡ 4 → after .outcome .answer .number ≡ 0
+      → Makes b given entry (imageOf (b .drive) images) command (after .outcome .answer .status) (driveAt (after .outcome .controller) (b .drive))
   unfolding left
-  entry-left number =
+  entry-left four number =
       let own = own-entry (b .drive) done c area images (omega (arith, drive-below block, four)) in
-      rw left-it (subst (λ (x : Drive). Makes b entry (imageOf (b .drive) images) command (done .ending .answer .status) x) (sym own) (leaves number .makes))
+      rw left-it (subst (λ (x : Drive). Makes b given entry (imageOf (b .drive) images) command (done .ending .answer .status) x) (sym own) (leaves number .makes))
 
   buffer-left : after .outcome .answer .number ≡ 0 → Fills b given (c .buffer) command (after .outcome .answer .status) (after .outcome .controller .buffer)
   unfolding left
@@ -110,9 +111,15 @@ module _ (c : Controller) (block given area : List ℕ) (images : List (List ℕ
   unfolding left splice
   area-past number = rw (left-it, leaves number .bytes) (drop-append-seam (done .handed) _ ∙ rw zero-add)
 
-  -- The entry of every other drive stays.
+  image-left : after .outcome .answer .number ≡ 0 → Writes (imageOf (b .drive) images) command (imageOf (b .drive) (after .images))
+  image-left number = rw (left-it, its-image c block given area images) (leaves number .writes)
+
+  -- The entry and the image of every other drive stay.
   others-left : (d : ℕ) → (d ≡ b .drive → ⊥) → driveAt (after .outcome .controller) d ≡ driveAt c d
   others-left d ne = rw left-it (other-entry (b .drive) done c area images d ne)
+
+  others-images : (d : ℕ) → (d ≡ b .drive → ⊥) → imageOf d (after .images) ≡ imageOf d images
+  others-images d ne = rw left-it (other-image (b .drive) done c area images d ne)
 
 -- ---- (c) A Write changes only the data bytes of slots that it found: the label, every ID and all other data stay
 module _ (b : Block) (given : List ℕ) (area : ℕ) (entry : Drive) (buffer image : List ℕ) (p : Params)

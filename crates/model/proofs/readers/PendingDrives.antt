@@ -80,13 +80,13 @@ module _ (b : Block) (given : List ℕ) (area : ℕ) (entry : Drive) (buffer ima
   medium = mediumOf (b .drive)
 
   -- one but Format Drive: the entry, by the label as it was
-  makes-pending : {command : Command} {status : ℕ} {d : Drive} → (command ≡ OnDisk (TrackWork FormatDrive) → ⊥) → Makes b entry image command status d
+  makes-pending : {command : Command} {status : ℕ} {d : Drive} → (command ≡ OnDisk (TrackWork FormatDrive) → ⊥) → Makes b given entry image command status d
       → PendingByLabel medium d image
   unfolding sensed initialized
   makes-pending other kept = told
-  makes-pending other (coded code at) = told
+  makes-pending other (coded code at some) = told
   makes-pending other (cleared only) = told
-  makes-pending other (initial config) = λ known. refl
+  makes-pending other initial = λ known. refl
   makes-pending other formatted = absurd (other refl)
 
   obeyed-pending : {command : Command} {e : Effect} → (command ≡ OnDisk (TrackWork FormatDrive) → ⊥) → Obeyed b given entry buffer image command e

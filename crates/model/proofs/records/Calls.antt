@@ -11,6 +11,7 @@ use Rattle.base.specs.Part.{part}
 use Rattle.base.proofs.Decide.{pick-true, pick-false}
 use Rattle.geometry.specs.declared.params.Lba.{Lba}
 use Rattle.geometry.specs.declared.params.Params.{Params}
+use Rattle.geometry.specs.declared.config.Setting.{Setting}
 use Rattle.geometry.specs.declared.config.Setting.the-variants.{Valid, Invalid}
 use Rattle.geometry.specs.Params.{trackCount, trackOf, OnDrive, further}
 use Rattle.geometry.specs.Medium.{mediumOf}
@@ -41,7 +42,7 @@ use Rattle.model.specs.Checks.{bytesOf, sizeIn, judge}
 use Rattle.model.specs.Record.{driveAt, settingIn, refused, failed, unless, Effect, effect}
 use Rattle.model.specs.Commands.{transferred, read, doFree, doTrack, doSectors, asEffect, doDisk, carryOut}
 use Rattle.model.specs.Engine.{viewOf, obey, Result, imageOf, left, onDrive, execute}
-use Rattle.model.specs.Records.{isGood, onTracks, namedBy, named, NoOtherRecord, NoneWithoutParameters, PastStays, WrittenReads, SlotsApart}
+use Rattle.model.specs.Records.{isGood, onTracks, namedBy, named, NoOtherRecord, NoneWithoutParameters, PastStays, WrittenReads, GoodWrites, SlotsApart}
 use Rattle.model.proofs.engine.Checked.{opcodeFor, track-cleared, count-cleared}
 use Rattle.model.proofs.engine.Leaving.{Verdicts, second, third, fault, pass, judge-by, read-image}
 use Rattle.model.proofs.engine.Beyond.{clear, w, fits, ten, outside-kept}
@@ -61,7 +62,7 @@ by-verdict : (P : Effect → Type 0) (drive : ℕ) (entry : Drive) (buffer image
 unfolding unless refused failed isGood
 by-verdict P drive entry buffer image after second old new = old _ (record { none = refl; bad = refl })
 by-verdict P drive entry buffer image after third old new = old _ (record { none = refl; bad = refl })
-by-verdict P drive entry buffer image after (fault code at) old new = old _ (record { none = refl; bad = not-good drive 0 0 })
+by-verdict P drive entry buffer image after (fault code at some) old new = old _ (record { none = refl; bad = not-good drive 0 0 })
 by-verdict P drive entry buffer image after pass old new = new refl
 
 -- ---- What a Write counts as done reads as given; with good status all are done
@@ -166,6 +167,24 @@ module _ (b : Block) (given : List ℕ) (area : ℕ) (entry : Drive) (buffer ima
       (λ x n. (λ i l. absurd (omega (arith, n .none)), λ ok. absurd (true≢false (sym ok ∙ n .bad))))
       (λ passed. rw (valid, is) (written-given b given area entry buffer image passed p valid is))
 
+-- ---- A Write with good status
+module _ (b : Block) (given : List ℕ) (area : ℕ) (entry : Drive) (buffer image : List ℕ)
+    (is : rowFor (b .opcode) .command ≡ OnDisk (SectorWork Write)) where
+  -- without parameters there is none
+  never-good : settingIn (mediumOf (b .drive)) entry (length image) ≡ Invalid
+      → isGood (b .drive) (obey b given area entry buffer image .ending .answer) ≡ false
+  unfolding obey viewOf carryOut failed
+  never-good none =
+      by-verdict (λ (e : Effect). isGood (b .drive) (e .ending .answer) ≡ false) (b .drive) entry buffer image _ (judge-by b _ (length given) area)
+      (λ x n. n .bad) (λ passed. rw (none, is) (not-good (b .drive) 0 0))
+
+  obey-good : (s : Setting) → settingIn (mediumOf (b .drive)) entry (length image) ≡ s
+      → isGood (b .drive) (obey b given area entry buffer image .ending .answer) ≡ true
+      → (p : Params) × (settingIn (mediumOf (b .drive)) entry (length image) ≡ Valid p)
+      × (obey b given area entry buffer image .ending .answer .sectors ≡ countOf b)
+  obey-good Invalid e ok = absurd (true≢false (sym ok ∙ never-good e))
+  obey-good (Valid p) e ok = (p, e, obey-writes b given area entry buffer image p e is .1 ok)
+
 -- ---- Any call
 module _ (c : Controller) (block given area : List ℕ) (images : List (List ℕ)) where
   abbrev b : Block
@@ -246,7 +265,18 @@ unfolding WrittenReads
 written-reads c block given area images p six is valid =
     let b = blockOf block in
     let r = obey-writes b given (length area) (driveAt c (b .drive)) (c .buffer) (imageOf (b .drive) images) p valid is in
-    rw (six-bytes c block given area images (eq-eqb _ _ six), its-answer c block given area images, its-image c block given area images) r
+    rw (six-bytes c block given area images (eq-eqb _ _ six), its-answer c block given area images, its-image c block given area images) (r .0)
+
+-- A Write with good status had parameters, and has done all its sectors.
+pub good-writes : GoodWrites
+unfolding GoodWrites
+good-writes c block given area images six is ok =
+    let b = blockOf block in
+    let entry = driveAt c (b .drive) in
+    let image = imageOf (b .drive) images in
+    let left-it = six-bytes c block given area images (eq-eqb _ _ six) in
+    let r = obey-good b given (length area) entry (c .buffer) image is _ refl (rw (left-it, its-answer c block given area images) at ok) in
+    (r .0, r .1, rw (left-it, its-answer c block given area images) (r .2))
 
 -- Of a drive without parameters no byte changes.
 pub none-without-parameters : NoneWithoutParameters

@@ -119,12 +119,12 @@ module _ (b : Block) (given : List ℕ) (area : ℕ) (entry : Drive) (buffer ima
   failed-initialize is = failing _ _ (rw is (configured _ _))
 
   -- of every other command
-  by-makes : {command : Command} {status : ℕ} {after : Drive} → (command ≡ Free Initialize → ⊥) → Makes b entry image command status after → Keeps entry after
+  by-makes : {command : Command} {status : ℕ} {after : Drive} → (command ≡ Free Initialize → ⊥) → Makes b given entry image command status after → Keeps entry after
   unfolding sensed initialized pendingEnded
-  by-makes h (coded code at) = record { config = refl; known = refl }
+  by-makes h (coded code at some) = record { config = refl; known = refl }
   by-makes h (cleared only) = record { config = refl; known = refl }
   by-makes h kept = keeps-self entry
-  by-makes h (initial config) = absurd (h refl)
+  by-makes h initial = absurd (h refl)
   by-makes h formatted = record { config = refl; known = refl }
 
   by-obeyed : (command : Command) (e : Effect) → (command ≡ Free Initialize → ⊥) → Obeyed b given entry buffer image command e → Keeps entry (e .ending .entry)
