@@ -21,30 +21,45 @@ const STDIN: i32 = 0;
 
 const STDOUT: i32 = 1;
 
-// Where the program stands, and whether its answers still reach someone.
+// Where the program stands, and whether it goes on: no read and no write has failed.
 pub struct Went {
     pub session: Session,
     pub going: bool,
 }
 
-// What has come of the input; nothing at its end. A read that a signal has interrupted is tried again. One that fails otherwise
-// is named on standard error and ends the session as the input's end does; a program of Rattle has no exit status to say so.
-fn read_some(input: &mut [u8]) -> usize
-    ensures { λ r. ⌜ r ≤ length (now (input .exit)) ⌝ }
+// What a read has brought: so many characters, none at the input's end; or it has failed, and brought none.
+pub struct Got {
+    pub count: usize,
+    pub failed: bool,
+}
+
+// What has come of the input. A read that a signal has interrupted is tried again. One that fails otherwise is named on standard
+// error: where the input ends is then unknown.
+fn read_some(input: &mut [u8]) -> Got
+    ensures { λ r. ⌜ r .count ≤ length (now (input .exit)) ⌝ }
 {
     let mut turns = u64::MAX;
     while 0 < turns {
         let got = libc::read(STDIN, input);
         if 0 <= got {
-            return io::count(got, input);
+            return Got {
+                count: io::count(got, input),
+                failed: false,
+            };
         }
         if os::errno() != libc::EINTR {
             os::fail(b"read");
-            return 0;
+            return Got {
+                count: 0,
+                failed: true,
+            };
         }
         turns -= 1;
     }
-    0
+    Got {
+        count: 0,
+        failed: true,
+    }
 }
 
 // Writes the first n characters of the text; says whether that went well.
@@ -98,8 +113,9 @@ fn feed(
     }
 }
 
-// Answers line after line. A proved loop has to end, and nothing says that the input does: so it counts its turns down, from a
-// number that no session uses up.
+// Answers line after line, and goes on to the last line only where the input has ended: after a read that failed the line under way
+// may be half a command, and half a command is not carried out. A proved loop has to end, and nothing says that the input does: so
+// it counts its turns down, from a number that no session uses up.
 fn converse(
     first: Session,
     input: &mut [u8],
@@ -119,11 +135,12 @@ fn converse(
     let mut session = first;
     let mut turns = u64::MAX;
     while 0 < turns {
-        let n = read_some(input);
+        let got = read_some(input);
+        let n = got.count;
         if n == 0 {
             return Went {
                 session: session,
-                going: true,
+                going: !got.failed,
             };
         }
         let went = feed(
@@ -145,7 +162,7 @@ fn converse(
     }
     Went {
         session: session,
-        going: true,
+        going: false,
     }
 }
 

@@ -25,31 +25,31 @@ read-some-requires : tie.Need-read-some-requires Inv-loop μ-loop
 read-some-requires c κs = tt
 
 same-length : tie.Need-same-length Inv-loop μ-loop
-same-length c = c .before .before .before .read-some .kept .0 ∙ c .before .before .before .before .before .before .loop .inv .0
+same-length c = c .before .before .before .before .read-some .kept .0 ∙ c .before .before .before .before .before .before .before .loop .inv .0
 
 same-length-2 : tie.Need-same-length-2 Inv-loop μ-loop
-same-length-2 c = ap (λ l. l .bytes) (c .before .before .before .before .before .before .loop .inv .1 .same)
+same-length-2 c = ap (λ l. l .bytes) (c .before .before .before .before .before .before .before .loop .inv .1 .same)
 
 same-length-3 : tie.Need-same-length-3 Inv-loop μ-loop
-same-length-3 c = ap (λ l. l .area) (c .before .before .before .before .before .before .loop .inv .1 .same)
+same-length-3 c = ap (λ l. l .area) (c .before .before .before .before .before .before .before .loop .inv .1 .same)
 
 same-length-4 : tie.Need-same-length-4 Inv-loop μ-loop
-same-length-4 c = ap (λ l. l .image0) (c .before .before .before .before .before .before .loop .inv .1 .same)
+same-length-4 c = ap (λ l. l .image0) (c .before .before .before .before .before .before .before .loop .inv .1 .same)
 
 same-length-5 : tie.Need-same-length-5 Inv-loop μ-loop
-same-length-5 c = ap (λ l. l .image1) (c .before .before .before .before .before .before .loop .inv .1 .same)
+same-length-5 c = ap (λ l. l .image1) (c .before .before .before .before .before .before .before .loop .inv .1 .same)
 
 same-length-6 : tie.Need-same-length-6 Inv-loop μ-loop
-same-length-6 c = ap (λ l. l .image2) (c .before .before .before .before .before .before .loop .inv .1 .same)
+same-length-6 c = ap (λ l. l .image2) (c .before .before .before .before .before .before .before .loop .inv .1 .same)
 
 same-length-7 : tie.Need-same-length-7 Inv-loop μ-loop
-same-length-7 c = ap (λ l. l .image3) (c .before .before .before .before .before .before .loop .inv .1 .same)
+same-length-7 c = ap (λ l. l .image3) (c .before .before .before .before .before .before .before .loop .inv .1 .same)
 
 same-length-8 : tie.Need-same-length-8 Inv-loop μ-loop
-same-length-8 c = ap (λ l. l .text) (c .before .before .before .before .before .before .loop .inv .1 .same)
+same-length-8 c = ap (λ l. l .text) (c .before .before .before .before .before .before .before .loop .inv .1 .same)
 
 returns : tie.Need-returns Inv-loop μ-loop
-returns c = c .before .before .before .before .before .before .loop .inv .1 .talking
+returns c = c .before .before .before .before .before .before .before .loop .inv .1 .talking
 
 sub-feed : tie.Need-sub-feed Inv-loop μ-loop
 sub-feed c = search needs
