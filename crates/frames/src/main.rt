@@ -16,6 +16,7 @@ ghost use Rattle.model.specs.Engine.{imagesOf};
 ghost use Rattle.lines.specs.Talk.{talked};
 ghost use Rattle.lines.specs.Frames.{Talking};
 ghost use Rattle.lines.specs.Hearing.{talkNow, textLength};
+ghost use Rattle.frames.specs.Onward.{Onward};
 
 const STDIN: i32 = 0;
 
@@ -131,6 +132,10 @@ fn converse(
     requires { ⌜ textLength ≤ length (now text) ⌝ }
     ensures { λ r. ⌜ Talking (talkNow (r .session) (now (bytes .exit)) (now (area .exit))
         (imagesOf (now (image0 .exit)) (now (image1 .exit)) (now (image2 .exit)) (now (image3 .exit)))) ⌝ }
+    ensures { λ r. ⌜ (r .going ≡ true → Onward (talkNow first (now (bytes .entry)) (now (area .entry))
+        (imagesOf (now (image0 .entry)) (now (image1 .entry)) (now (image2 .entry)) (now (image3 .entry))))
+        (talkNow (r .session) (now (bytes .exit)) (now (area .exit))
+        (imagesOf (now (image0 .exit)) (now (image1 .exit)) (now (image2 .exit)) (now (image3 .exit))))) ⌝ }
 {
     let mut session = first;
     let mut turns = u64::MAX;
