@@ -15,6 +15,7 @@ use Rattle.lines.specs.Hearing.{textLength, Speaks, talkNow, AtFirst, lineEnd}
 use Rattle.lines.proofs.AnswerTexts.{front-fits}
 use Rattle.lines.proofs.Standing.{talking-on}
 use Rattle.lines.proofs.Talks.{talked-cut}
+use Rattle.frames.specs.Onward.{Onward}
 
 -- The lengths of the slices that a session is lent.
 pub record Lengths : Type 0 where
@@ -82,6 +83,18 @@ module _ (whole x : Talk) (input : List ℕ) (at : ℕ) (rest : talked x (drop a
       let parts : talked y (drop (at + n) input) .talk ≡ talked x (take n (drop at input) ++ drop n (drop at input)) .talk =
       rw (e, all, ← on) (sym (ap (λ (s : Spoken). s .talk) cut)) in
       parts ∙ rw (take-append-drop n (drop at input)) rest
+
+-- ---- piece after piece
+pub onward-none : (x : Talk) → Onward x x
+unfolding talked
+onward-none x = record { heard = []; is = refl }
+
+pub onward-more : {from here : Talk} (next : Talk) (input : List ℕ) → Onward from here → next ≡ talked here input .talk → Onward from next
+unfolding spokenBehind
+onward-more {from} next input o e = record {
+  heard = o .heard ++ input;
+  is = e ∙ (rw (o .is) (sym (ap (λ (s : Spoken). s .talk) (talked-cut from (o .heard) input))));
+}
 
 pub none-taken : {A : Type 0} → false ≡ true → A
 none-taken e = absurd (false≢true e)

@@ -16,35 +16,51 @@ ghost use Rattle.model.specs.Engine.{imagesOf};
 ghost use Rattle.lines.specs.Talk.{talked};
 ghost use Rattle.lines.specs.Frames.{Talking};
 ghost use Rattle.lines.specs.Hearing.{talkNow, textLength};
+ghost use Rattle.frames.specs.Onward.{Onward};
 
 const STDIN: i32 = 0;
 
 const STDOUT: i32 = 1;
 
-// Where the program stands, and whether its answers still reach someone.
+// Where the program stands, and whether it goes on: no read and no write has failed.
 pub struct Went {
     pub session: Session,
     pub going: bool,
 }
 
-// What has come of the input; nothing at its end. A read that a signal has interrupted is tried again. One that fails otherwise
-// is named on standard error and ends the session as the input's end does; a program of Rattle has no exit status to say so.
-fn read_some(input: &mut [u8]) -> usize
-    ensures { λ r. ⌜ r ≤ length (now (input .exit)) ⌝ }
+// What a read has brought: so many characters, none at the input's end; or it has failed, and brought none.
+pub struct Got {
+    pub count: usize,
+    pub failed: bool,
+}
+
+// What has come of the input. A read that a signal has interrupted is tried again. One that fails otherwise is named on standard
+// error: where the input ends is then unknown.
+fn read_some(input: &mut [u8]) -> Got
+    ensures { λ r. ⌜ r .count ≤ length (now (input .exit)) ⌝ }
 {
     let mut turns = u64::MAX;
     while 0 < turns {
         let got = libc::read(STDIN, input);
         if 0 <= got {
-            return io::count(got, input);
+            return Got {
+                count: io::count(got, input),
+                failed: false,
+            };
         }
         if os::errno() != libc::EINTR {
             os::fail(b"read");
-            return 0;
+            return Got {
+                count: 0,
+                failed: true,
+            };
         }
         turns -= 1;
     }
-    0
+    Got {
+        count: 0,
+        failed: true,
+    }
 }
 
 // Writes the first n characters of the text; says whether that went well.
@@ -98,8 +114,9 @@ fn feed(
     }
 }
 
-// Answers line after line. A proved loop has to end, and nothing says that the input does: so it counts its turns down, from a
-// number that no session uses up.
+// Answers line after line, and goes on to the last line only where the input has ended: after a read that failed the line under way
+// may be half a command, and half a command is not carried out. A proved loop has to end, and nothing says that the input does: so
+// it counts its turns down, from a number that no session uses up.
 fn converse(
     first: Session,
     input: &mut [u8],
@@ -115,15 +132,20 @@ fn converse(
     requires { ⌜ textLength ≤ length (now text) ⌝ }
     ensures { λ r. ⌜ Talking (talkNow (r .session) (now (bytes .exit)) (now (area .exit))
         (imagesOf (now (image0 .exit)) (now (image1 .exit)) (now (image2 .exit)) (now (image3 .exit)))) ⌝ }
+    ensures { λ r. ⌜ (r .going ≡ true → Onward (talkNow first (now (bytes .entry)) (now (area .entry))
+        (imagesOf (now (image0 .entry)) (now (image1 .entry)) (now (image2 .entry)) (now (image3 .entry))))
+        (talkNow (r .session) (now (bytes .exit)) (now (area .exit))
+        (imagesOf (now (image0 .exit)) (now (image1 .exit)) (now (image2 .exit)) (now (image3 .exit))))) ⌝ }
 {
     let mut session = first;
     let mut turns = u64::MAX;
     while 0 < turns {
-        let n = read_some(input);
+        let got = read_some(input);
+        let n = got.count;
         if n == 0 {
             return Went {
                 session: session,
-                going: true,
+                going: !got.failed,
             };
         }
         let went = feed(
@@ -145,7 +167,7 @@ fn converse(
     }
     Went {
         session: session,
-        going: true,
+        going: false,
     }
 }
 

@@ -16,7 +16,7 @@ use Rattle.geometry.specs.Medium.{mediumOf}
 use Rattle.geometry.proofs.Settings.{setting-within}
 use Rattle.track.specs.Image.{Fits}
 use Rattle.sectors.specs.Transfer.{begun, reading}
-use Rattle.sectors.proofs.Readings.{reading-handed}
+use Rattle.sectors.proofs.Laws.{reading-handed}
 use Rattle.model.specs.declared.block.Block.{Block}
 use Rattle.model.specs.declared.record.Drive.{Drive}
 use Rattle.model.specs.declared.record.Controller.{Controller}

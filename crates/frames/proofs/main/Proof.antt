@@ -77,7 +77,7 @@ slice-aggregate-close-7 c = search needs
 close-requires : tie.Need-close-requires
 close-requires c κs =
     let done = c .before .before .before .before .before .before .before .before .before .before .before .before .before .before .before .before .before .converse in
-    (done .ensures, omega (arith, text-enough, done .kept .1 .1 .1 .1 .1 .1 .1 .1 .0))
+    (done .ensures .0, omega (arith, text-enough, done .kept .1 .1 .1 .1 .1 .1 .1 .1 .0))
 
 slice-aggregate-say : tie.Need-slice-aggregate-say
 slice-aggregate-say c = search needs
