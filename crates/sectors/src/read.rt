@@ -3,7 +3,7 @@ use crate::run::read_run;
 use crate::transfer::Done;
 use crate::transfer::done_of;
 use crate::transfer::sectors_here;
-use base::bytes::copy_bytes;
+use base::bytes::move_bytes;
 use geometry::params::Lba;
 use geometry::params::Params;
 use track::find::Sector;
@@ -35,7 +35,7 @@ fn read_one(image: &[u8], p: Params, a: Lba, place: &mut [u8]) -> Done
             let start = stretch.start;
             let end = stretch.end;
             let slot = slot_at(&image[start..end], p, k);
-            copy_bytes(place, slot_data(slot, p));
+            move_bytes(place, slot_data(slot, p));
             Done {
                 sectors: 1,
                 code: 0,

@@ -1,5 +1,5 @@
 // Sectors of one track that follow each other, read and written. A run looks at each slot's ID at most once.
-use base::bytes::copy_bytes;
+use base::bytes::move_bytes;
 use geometry::params::Params;
 use track::search::NO_SLOT;
 use track::search::look_for;
@@ -31,7 +31,7 @@ pub fn read_run(track: &[u8], p: Params, s: usize, m: usize, places: &mut [u8]) 
         }
         let end = at + size;
         let slot = slot_at(track, p, k as usize);
-        copy_bytes(&mut places[at..end], slot_data(slot, p));
+        move_bytes(&mut places[at..end], slot_data(slot, p));
         at = end;
         i += 1;
     }

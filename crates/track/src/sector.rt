@@ -1,5 +1,5 @@
 // One sector's data in a track, which is its own stretch of the image.
-use base::bytes::copy_bytes;
+use base::bytes::move_bytes;
 use geometry::params::Params;
 ghost use mathlib.Core.Path.{_≡_};
 ghost use Prim.Native.Nat.{_<_};
@@ -35,5 +35,5 @@ pub fn write_data(track: &mut [u8], p: Params, k: usize, sector: &[u8])
 {
     let start = k * p.slot_size() + 8;
     let end = start + p.size;
-    copy_bytes(&mut track[start..end], sector);
+    move_bytes(&mut track[start..end], sector);
 }

@@ -67,8 +67,8 @@ slot-data-requires : tie.Need-slot-data-requires
 slot-data-requires c κs =
     (c .before .before .before .before .before .before .before .before .before .before .before .before .pre .0 .within, slot-long _ _ (lent (c .before .before .before)) _ (there (c .before .before .before .before) .1) _ (c .before .slot-at .ensures))
 
-copy-bytes-requires : tie.Need-copy-bytes-requires
-copy-bytes-requires c κs =
+move-bytes-requires : tie.Need-move-bytes-requires
+move-bytes-requires c κs =
     c .before .before .before .before .before .before .before .before .before .before .before .before .before .pre .2 ∙ sym (data-long _ _ (lent (c .before .before .before .before)) _ (there (c .before .before .before .before .before) .1) _ (c .before .before .slot-at .ensures) _ (c .slot-data .ensures))
 
 returns : tie.Need-returns
@@ -87,7 +87,7 @@ returns-2 c =
     let a = w .before .before .before .before .before in
     read-found _ (a .args .a) _ _ _ _ (w .before .before .track-of .ensures) (w .before .sector-of .ensures) (w .find-sector .ensures) (a .pre .0) (a .pre .1)
     _ _ (lent .before .before .found2 .given .1) _ _ (lent .stretch .ensures .0) (lent .stretch .ensures .1)
-    _ _ _ _ (c .before .before .before .before .before .slot-at .ensures) (c .before .before .before .slot-data .ensures) (a .pre .2) (c .before .before .copy-bytes .ensures)
+    _ _ _ _ (c .before .before .before .before .before .slot-at .ensures) (c .before .before .before .slot-data .ensures) (a .pre .2) (c .before .before .move-bytes .ensures)
 
 pub read-one-spec : {M : Type 1} → statement M
 read-one-spec =
@@ -105,7 +105,7 @@ read-one-spec =
     part-slot-at-end
     slot-at-requires
     slot-data-requires
-    copy-bytes-requires
+    move-bytes-requires
     returns
     same-length
     returns-2)

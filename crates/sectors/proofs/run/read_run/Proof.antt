@@ -62,14 +62,14 @@ cast-slot-at c = omega (arith, there c)
 slot-at-requires : tie.Need-slot-at-requires Inv-loop μ-loop
 slot-at-requires c κs = let a = c .before .before .before .before .before .before .before .before in (a .pre .0, a .pre .1, there c)
 
-sub-copy-bytes : tie.Need-sub-copy-bytes Inv-loop μ-loop
-sub-copy-bytes c = search needs
+sub-move-bytes : tie.Need-sub-move-bytes Inv-loop μ-loop
+sub-move-bytes c = search needs
 
-part-copy-bytes-start : tie.Need-part-copy-bytes-start Inv-loop μ-loop
-part-copy-bytes-start c = search needs
+part-move-bytes-start : tie.Need-part-move-bytes-start Inv-loop μ-loop
+part-move-bytes-start c = search needs
 
-part-copy-bytes-end : tie.Need-part-copy-bytes-end Inv-loop μ-loop
-part-copy-bytes-end c = room (c .before .before .before .before .before)
+part-move-bytes-end : tie.Need-part-move-bytes-end Inv-loop μ-loop
+part-move-bytes-end c = room (c .before .before .before .before .before)
 
 slot-data-requires : tie.Need-slot-data-requires Inv-loop μ-loop
 slot-data-requires c κs =
@@ -77,8 +77,8 @@ slot-data-requires c κs =
     let a = called .before .before .before .before .before .before .before .before in
     (a .pre .0, slot-long _ _ (a .pre .1) _ (there called) _ (c .before .slot-at .ensures))
 
-copy-bytes-requires : tie.Need-copy-bytes-requires Inv-loop μ-loop
-copy-bytes-requires c κs =
+move-bytes-requires : tie.Need-move-bytes-requires Inv-loop μ-loop
+move-bytes-requires c κs =
     let called = c .before .before .before in
     let in-loop = called .before .before .before .before in
     let a = in-loop .before .before .before .before in
@@ -98,7 +98,7 @@ loop-again c =
     reading-more _ _ _ _ _ _ _ _ _ _ (in-loop .before .loop .inv) (in-loop .before .before .before .before .pre) (in-loop .loop-test .taken)
     _ _ (called .before .before .look-for .ensures) (called .if1 .left)
     _ _ _ (c .before .before .before .before .before .slot-at .ensures) (c .before .before .before .slot-data .ensures)
-    (c .before .before .copy-bytes .ensures)
+    (c .before .before .move-bytes .ensures)
 
 same-length-2 : tie.Need-same-length-2 Inv-loop μ-loop
 same-length-2 c = search needs
@@ -123,11 +123,11 @@ read-run-spec =
     add-end
     cast-slot-at
     slot-at-requires
-    sub-copy-bytes
-    part-copy-bytes-start
-    part-copy-bytes-end
+    sub-move-bytes
+    part-move-bytes-start
+    part-move-bytes-end
     slot-data-requires
-    copy-bytes-requires
+    move-bytes-requires
     add-i
     loop-less
     loop-again

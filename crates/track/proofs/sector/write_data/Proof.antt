@@ -24,17 +24,17 @@ add-start c = omega (arith, room c)
 add-end : tie.Need-add-end
 add-end c = omega (arith, room (c .before))
 
-sub-copy-bytes : tie.Need-sub-copy-bytes
-sub-copy-bytes c = search needs
+sub-move-bytes : tie.Need-sub-move-bytes
+sub-move-bytes c = search needs
 
-part-copy-bytes-start : tie.Need-part-copy-bytes-start
-part-copy-bytes-start c = search needs
+part-move-bytes-start : tie.Need-part-move-bytes-start
+part-move-bytes-start c = search needs
 
-part-copy-bytes-end : tie.Need-part-copy-bytes-end
-part-copy-bytes-end c = omega (arith, room (c .before))
+part-move-bytes-end : tie.Need-part-move-bytes-end
+part-move-bytes-end c = omega (arith, room (c .before))
 
-copy-bytes-requires : tie.Need-copy-bytes-requires
-copy-bytes-requires c κs = search needs
+move-bytes-requires : tie.Need-move-bytes-requires
+move-bytes-requires c κs = search needs
 
 same-length : tie.Need-same-length
 same-length c = search needs
@@ -42,7 +42,7 @@ same-length c = search needs
 returns : tie.Need-returns
 returns c =
     data-lent _ _ _ (c .before .before .before .before .before .slot-size .ensures) _ _ _
-    (c .before .before .before .before .before .before .before .before .pre .3) (c .before .before .copy-bytes .ensures)
+    (c .before .before .before .before .before .before .before .before .pre .3) (c .before .before .move-bytes .ensures)
 
 pub write-data-spec : {M : Type 1} → statement M
 write-data-spec =
@@ -52,9 +52,9 @@ write-data-spec =
     mul-start
     add-start
     add-end
-    sub-copy-bytes
-    part-copy-bytes-start
-    part-copy-bytes-end
-    copy-bytes-requires
+    sub-move-bytes
+    part-move-bytes-start
+    part-move-bytes-end
+    move-bytes-requires
     same-length
     returns)
