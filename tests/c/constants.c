@@ -102,6 +102,38 @@ static void damage(unsigned code, int slot, int byte, uint8_t value, uint8_t add
     *at = was;
 }
 
+/* docs/REFERENCE.md, Damage: of the alternate, track 2, slot 0 is spoilt, so that track 1 gives 1Eh. A format of the alternate would
+ * not be refused, and lose the map. With the 8 bytes of that ID written again the map is there. */
+static void mended(void) {
+    static const uint8_t own[8] = {0xA1, 0, 2, 0, 0, 3, 0, 1};
+    static uint8_t kept[LENGTH];
+    uint8_t *id = disk + LANTHEWG_LABEL_SIZE + 2 * SECTORS * SLOT;
+    memset(given, 0x5A, SLOT);
+    good(LANTHEWG_OPCODE_WRITE, 32, 1);
+    memset(id, 0, sizeof own);
+    fails(LANTHEWG_SENSE_NO_PARTNER, LANTHEWG_OPCODE_READ, 32, 1);
+    fails(LANTHEWG_SENSE_NO_ID, LANTHEWG_OPCODE_READ, 64, 1);
+    memcpy(kept, disk, sizeof disk);
+    good(LANTHEWG_OPCODE_FORMAT_TRACK, 64, 1);
+    memcpy(disk, kept, sizeof disk);
+    memcpy(id, own, sizeof own);
+    good(LANTHEWG_OPCODE_READ, 32, 1);
+    expect(area[0] == 0x5A && area[255] == 0x5A, "a map whose track's alternate was mended", 0);
+}
+
+/* The same page on 0Ah: a label written by hand, ten bytes and six zeros, is in force after a Reset, and not before. */
+static void label_by_hand(void) {
+    static const uint8_t label[LANTHEWG_LABEL_SIZE] = {0, 3, 1, 0, 1, 0, 0, 0, 0, 11};
+    memset(disk, 0xEE, sizeof label);
+    lanthewg_fresh(&card, disk, LENGTH, none, 0, none, 0, none, 0);
+    fails(LANTHEWG_SENSE_NO_PARAMETERS, LANTHEWG_OPCODE_READ, 32, 1);
+    memcpy(disk, label, sizeof label);
+    fails(LANTHEWG_SENSE_NO_PARAMETERS, LANTHEWG_OPCODE_READ, 32, 1);
+    lanthewg_reset(&card, disk, LENGTH, none, 0, none, 0, none, 0);
+    good(LANTHEWG_OPCODE_READ, 32, 1);
+    expect(area[0] == 0x5A, "a map on a disk whose label was written by hand", 0);
+}
+
 /* Length and one less: with the first the command is not refused, with the second it is, with this number. */
 static void takes(const uint8_t block[6], size_t length, size_t size, unsigned number) {
     for (size_t less = 0; less < 2; less++) {
@@ -173,6 +205,8 @@ int main(void) {
     damage(LANTHEWG_SENSE_UNKNOWN_FLAG, 0, FLAG, 4, 0);
     damage(LANTHEWG_SENSE_NO_SECTOR, 5, SECTOR, 99, 5);
     damage(LANTHEWG_SENSE_NO_PARTNER, 2 * SECTORS, FLAG, 0, 32);
+    mended();
+    label_by_hand();
     lanthewg_fresh(&card, none, 0, none, 0, none, 0, none, 0);
     memset(disk, 0, sizeof disk);
     sizes();

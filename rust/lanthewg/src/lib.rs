@@ -79,6 +79,7 @@ pub struct Answer {
     pub number: u8,
     /// 32 × drive, and [`STATUS_ERROR`] after a failure. 0 after a refusal.
     pub status: u8,
+    /// Always 0.
     pub message: u8,
     /// Sectors done.
     pub sectors: u16,
