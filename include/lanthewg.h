@@ -129,7 +129,8 @@ void lanthewg_fresh(lanthewg_controller *controller,
                     const uint8_t *image2, size_t image2_length,
                     const uint8_t *image3, size_t image3_length);
 
-/* Its answer is always good. */
+/* Reset, also after a change of disk in a drive and before any other command: without it the former disk's parameters stay in
+ * force. It drops pending parameters, sense bytes and buffer. Its answer is always good. */
 lanthewg_answer lanthewg_reset(lanthewg_controller *controller,
                                const uint8_t *image0, size_t image0_length,
                                const uint8_t *image1, size_t image1_length,

@@ -174,6 +174,14 @@ static void change_of_disk(void) {
     expect(!c->drives[2].known, "a disk that came after the last Reset has no parameters");
 }
 
+/* Sense bytes that the firmware writes into the record are handed over as they stand. */
+static void own_sense(void) {
+    static const uint8_t fault[LANTHEWG_SENSE_SIZE] = {3, 32, 0, 0};
+    memcpy(card()->drives[HARD].sense, fault, sizeof fault);
+    command("Request Sense after a failed flush", (uint8_t[]){0x03, 32, 0, 0, 0, 0}, 1, NOTHING, 0, 0);
+    expect(memcmp(area + ODD, fault, sizeof fault) == 0, "the firmware's own sense");
+}
+
 int main(void) {
     lanthewg_fresh(card(), image(0), LENGTH, image(1), LENGTH, image(2), LENGTH, image(3), LENGTH);
     formats();
@@ -181,6 +189,7 @@ int main(void) {
     others();
     floppies();
     refusals();
+    own_sense();
     expect(((uintptr_t)card() & 1) && ((uintptr_t)image(1) & 1) && ((uintptr_t)image(2) & 1), "the addresses are not odd");
     reset();
     expect(card()->drives[1].known && !card()->drives[1].pending, "the label that was written");

@@ -186,6 +186,7 @@ static void marked_label(const test *t, way order) {
     take(LABEL, LONGEST);
     bring(t, BLOCK, order, true);
     take(0, MARK);
+    take(MARK + 1, LABEL);
     bring(t, BLOCK, order, true);
     take(0, LABEL);
     bring(t, BLOCK, order, true);

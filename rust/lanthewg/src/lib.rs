@@ -175,7 +175,8 @@ impl Controller {
         record
     }
 
-    /// Reset: as `fresh`, and its answer is always good.
+    /// Reset: as `fresh`, and its answer is always good. Also after a change of disk, before any other
+    /// command: without it the former disk's parameters stay in force.
     #[inline]
     pub fn reset(&mut self, images: [&[u8]; 4]) -> Answer {
         let [image0, image1, image2, image3] = images;
