@@ -6,7 +6,7 @@
 #include <stdlib.h>
 #include <string.h>
 
-enum { LENGTH = 25360, SLOT = 264, SECTORS = 32, MARK = 0, CYLINDER = 2, SECTOR = 4, FLAG = 5 };
+enum { LENGTH = 25360, SLOT = 264, SECTORS = 32, MARK = 0, CYLINDER = 2, SECTOR = 4, FLAG = 5, PARTNER = 7 };
 
 static lanthewg_controller card;
 static uint8_t disk[LENGTH], none[1], area[LANTHEWG_LARGEST_AREA], given[LANTHEWG_LARGEST_AREA];
@@ -102,23 +102,26 @@ static void damage(unsigned code, int slot, int byte, uint8_t value, uint8_t add
     *at = was;
 }
 
-/* docs/REFERENCE.md, Damage: of the alternate, track 2, slot 0 is spoilt, so that track 1 gives 1Eh. A format of the alternate would
- * not be refused, and lose the map. With the 8 bytes of that ID written again the map is there. */
-static void mended(void) {
-    static const uint8_t own[8] = {0xA1, 0, 2, 0, 0, 3, 0, 1};
+/* docs/REFERENCE.md, Damage. Track 1 is moved to track 2, and slot 0 of one of them is spoilt: the other says a code, and the spoilt
+ * one could be formatted, which the map would not outlive. With the 8 bytes of its ID written again the map is there. */
+static void mended(int spoilt, int other, unsigned said, uint8_t flag) {
+    const uint8_t own[8] = {0xA1, 0, (uint8_t)spoilt, 0, 0, flag, 0, (uint8_t)other};
     static uint8_t kept[LENGTH];
-    uint8_t *id = disk + LANTHEWG_LABEL_SIZE + 2 * SECTORS * SLOT;
+    uint8_t *id = disk + LANTHEWG_LABEL_SIZE + spoilt * SECTORS * SLOT;
     memset(given, 0x5A, SLOT);
-    good(LANTHEWG_OPCODE_WRITE, 32, 1);
+    good(LANTHEWG_OPCODE_WRITE, SECTORS, 1);
+    expect(memcmp(id, own, sizeof own) == 0, "an ID as the page has it", flag);
     memset(id, 0, sizeof own);
-    fails(LANTHEWG_SENSE_NO_PARTNER, LANTHEWG_OPCODE_READ, 32, 1);
-    fails(LANTHEWG_SENSE_NO_ID, LANTHEWG_OPCODE_READ, 64, 1);
+    fails(LANTHEWG_SENSE_NO_ID, LANTHEWG_OPCODE_READ, (uint8_t)(spoilt * SECTORS), 1);
+    fails(said, LANTHEWG_OPCODE_READ, (uint8_t)(other * SECTORS), 1);
+    expect(disk[LANTHEWG_LABEL_SIZE + other * SECTORS * SLOT + PARTNER] == spoilt, "the other names the spoilt one", said);
     memcpy(kept, disk, sizeof disk);
-    good(LANTHEWG_OPCODE_FORMAT_TRACK, 64, 1);
+    good(LANTHEWG_OPCODE_FORMAT_TRACK, (uint8_t)(spoilt * SECTORS), 1);
+    expect(!lanthewg_is_good(command(LANTHEWG_OPCODE_READ, SECTORS, 1)) || area[0] != 0x5A, "a map after a format", said);
     memcpy(disk, kept, sizeof disk);
     memcpy(id, own, sizeof own);
-    good(LANTHEWG_OPCODE_READ, 32, 1);
-    expect(area[0] == 0x5A && area[255] == 0x5A, "a map whose track's alternate was mended", 0);
+    good(LANTHEWG_OPCODE_READ, SECTORS, 1);
+    expect(area[0] == 0x5A && area[255] == 0x5A, "a map in a pair that was mended", said);
 }
 
 /* The same page on 0Ah: a label written by hand, ten bytes and six zeros, is in force after a Reset, and not before. */
@@ -205,7 +208,8 @@ int main(void) {
     damage(LANTHEWG_SENSE_UNKNOWN_FLAG, 0, FLAG, 4, 0);
     damage(LANTHEWG_SENSE_NO_SECTOR, 5, SECTOR, 99, 5);
     damage(LANTHEWG_SENSE_NO_PARTNER, 2 * SECTORS, FLAG, 0, 32);
-    mended();
+    mended(2, 1, LANTHEWG_SENSE_NO_PARTNER, 3);
+    mended(1, 2, LANTHEWG_SENSE_TAKEN, 2);
     label_by_hand();
     lanthewg_fresh(&card, none, 0, none, 0, none, 0, none, 0);
     memset(disk, 0, sizeof disk);
