@@ -68,7 +68,7 @@ enum {
     LANTHEWG_SENSE_NO_ID = 0x12,           /* the track has no ID where its first must be */
     LANTHEWG_SENSE_NO_SECTOR = 0x14,       /* no slot of the track holds the sector */
     LANTHEWG_SENSE_OTHER_TRACK = 0x15,     /* the track's first ID is another track's */
-    LANTHEWG_SENSE_PENDING = 0x16,         /* Initialize's: Reset brings the disk's own back; a Format Drive from track 0 stores them and loses everything */
+    LANTHEWG_SENSE_PENDING = 0x16,         /* Reset brings the disk's own parameters back; a format from track 0 loses everything */
     LANTHEWG_SENSE_BAD_TRACK = 0x19,       /* the track is flagged as bad */
     LANTHEWG_SENSE_OTHER_IDS = 0x1A,       /* Check Track: the IDs are not those of this interleave */
     LANTHEWG_SENSE_TAKEN = 0x1C,           /* the track is in use as an alternate */

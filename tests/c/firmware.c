@@ -75,7 +75,8 @@ static void refused(unsigned number, const uint8_t *block, size_t size, size_t g
     lanthewg_answer a = execute(block, size, given_size, area_size);
     commands++;
     expect(a.number == number, "a call that must be refused is not");
-    expect(changed_images() == 0 && memcmp(record, memory, sizeof memory) == 0 && memcmp(handed, area, sizeof area) == 0, "a refusal changes something");
+    expect(changed_images() == 0, "a refusal changes an image");
+    expect(memcmp(record, memory, sizeof memory) == 0 && memcmp(handed, area, sizeof area) == 0, "a refusal changes record or area");
 }
 
 /* Reset changes no image. */
@@ -167,7 +168,8 @@ static void change_of_disk(void) {
         *c = former;
         memcpy(other, one_cylinder, sizeof one_cylinder);
         a = by_reset ? lanthewg_reset(c, image(0), LENGTH, image(1), LENGTH, other, LENGTH, image(3), LENGTH)
-                     : lanthewg_execute(c, initialize, 6, given + ODD, 10, area, 0, image(0), LENGTH, image(1), LENGTH, other, LENGTH, image(3), LENGTH);
+                     : lanthewg_execute(c, initialize, 6, given + ODD, 10, area, 0, image(0), LENGTH, image(1), LENGTH,
+                                        other, LENGTH, image(3), LENGTH);
         expect(lanthewg_is_good(a) && c->drives[2].config[1] == 1 && !c->drives[2].pending, "the new disk's parameters");
     }
     lanthewg_fresh(c, image(0), LENGTH, image(1), LENGTH, other, 0, image(3), LENGTH);

@@ -157,7 +157,8 @@ static void begin(const test *t) {
 
 static void expect(bool holds, const test *t, const char *how) {
     if (holds) return;
-    printf("torn: %s, %s: %ld stops, %ld bytes of other records, %ld labels that nobody sent, %ld times stuck\n", t->name, how, stops, strays, unsent, stuck);
+    printf("torn: %s, %s: %ld stops, %ld bytes of other records, %ld labels that nobody sent, %ld times stuck\n", t->name, how,
+           stops, strays, unsent, stuck);
     failed = 1;
 }
 
