@@ -27,6 +27,7 @@ enum { MAP = 256 };
 typedef struct {
     const char *name;
     int file;        /* -1: there is none */
+    int created;     /* by us, and still empty */
     size_t length;
     uint8_t *image;  /* as the engine has it */
     uint8_t *stored; /* as the file has it */
@@ -38,13 +39,20 @@ static disk disks[4];
 static uint8_t area[1024];
 static lanthewg_controller card;
 
+/* Leaves no empty file behind. */
+static void unmake(void) {
+    for (int drive = 0; drive < 4; drive++) if (disks[drive].created) unlink(disks[drive].name);
+}
+
 static void give_up(const char *name) {
     perror(name);
+    unmake();
     exit(1);
 }
 
 static void refuse(const char *name, const char *why) {
     fprintf(stderr, "session: %s %s\n", name, why);
+    unmake();
     exit(2);
 }
 
@@ -63,7 +71,11 @@ static void judge(const char *name, int asked) {
 static void take(int drive) {
     disk *d = &disks[drive];
     struct stat found = {0}, other;
-    d->file = open(d->name, made[drive] != 0 ? O_RDWR | O_CREAT : O_RDONLY, 0666);
+    d->file = open(d->name, made[drive] != 0 ? O_RDWR : O_RDONLY);
+    if (d->file < 0 && errno == ENOENT && made[drive] != 0) {
+        d->file = open(d->name, O_RDWR | O_CREAT | O_EXCL, 0666);
+        d->created = d->file >= 0;
+    }
     if (d->file < 0 && errno != ENOENT) give_up(d->name);
     if (d->file >= 0 && fstat(d->file, &found) != 0) give_up(d->name);
     d->length = (size_t)found.st_size;
@@ -98,6 +110,7 @@ static void load(int drive) {
     d->image = calloc(d->length + 1, 1); /* not null, where the length is 0 too */
     d->stored = calloc(d->length + 1, 1);
     if (!d->image || !d->stored) give_up(d->name);
+    d->created = 0;
     if (empty) put(d, 0, d->length); else get(d);
 }
 

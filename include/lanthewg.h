@@ -20,6 +20,13 @@
 
 #define LANTHEWG_VERSION "0.5.0"
 
+/* An answer that nobody looks at is a warning, where the compiler can say so. */
+#if defined(__GNUC__)
+#define LANTHEWG_LOOKED_AT __attribute__((warn_unused_result))
+#else
+#define LANTHEWG_LOOKED_AT
+#endif
+
 #ifdef __cplusplus
 extern "C" {
 #endif
@@ -56,12 +63,12 @@ enum { LANTHEWG_STATUS_ERROR = 0x02 };
 enum {
     LANTHEWG_SENSE_NONE = 0x00,
     LANTHEWG_SENSE_ABSENT = 0x04,          /* there is no such drive */
-    LANTHEWG_SENSE_NO_PARAMETERS = 0x0A,   /* neither a label nor Initialize gave any */
+    LANTHEWG_SENSE_NO_PARAMETERS = 0x0A,   /* none in force that are valid with the image; Reset takes the label's */
     LANTHEWG_SENSE_UNKNOWN_FLAG = 0x10,    /* the track's first ID has a flag above 3 */
     LANTHEWG_SENSE_NO_ID = 0x12,           /* the track has no ID where its first must be */
     LANTHEWG_SENSE_NO_SECTOR = 0x14,       /* no slot of the track holds the sector */
     LANTHEWG_SENSE_OTHER_TRACK = 0x15,     /* the track's first ID is another track's */
-    LANTHEWG_SENSE_PENDING = 0x16,         /* Initialize's parameters wait for a Format Drive from track 0 */
+    LANTHEWG_SENSE_PENDING = 0x16,         /* Reset brings the disk's own parameters back; a format from track 0 loses everything */
     LANTHEWG_SENSE_BAD_TRACK = 0x19,       /* the track is flagged as bad */
     LANTHEWG_SENSE_OTHER_IDS = 0x1A,       /* Check Track: the IDs are not those of this interleave */
     LANTHEWG_SENSE_TAKEN = 0x1C,           /* the track is in use as an alternate */
@@ -105,7 +112,7 @@ typedef struct {
 typedef struct {
     uint8_t number;
     uint8_t status;
-    uint8_t message;
+    uint8_t message;  /* always 0: the byte that a SASI controller sends after the status */
     uint16_t sectors; /* done */
     uint32_t bytes;   /* handed over, at the front of the data area */
 } lanthewg_answer;
@@ -122,6 +129,8 @@ void lanthewg_fresh(lanthewg_controller *controller,
                     const uint8_t *image2, size_t image2_length,
                     const uint8_t *image3, size_t image3_length);
 
+/* Reset, also after a change of disk in a drive and before any other command: without it the former disk's parameters stay in
+ * force. It drops pending parameters, sense bytes and buffer. Its answer is always good. */
 lanthewg_answer lanthewg_reset(lanthewg_controller *controller,
                                const uint8_t *image0, size_t image0_length,
                                const uint8_t *image1, size_t image1_length,
@@ -129,6 +138,7 @@ lanthewg_answer lanthewg_reset(lanthewg_controller *controller,
                                const uint8_t *image3, size_t image3_length);
 
 /* A command: its block, the data given with it, and the data area for what it hands over. */
+LANTHEWG_LOOKED_AT
 lanthewg_answer lanthewg_execute(lanthewg_controller *controller,
                                  const uint8_t *block, size_t block_length,
                                  const uint8_t *given, size_t given_length,

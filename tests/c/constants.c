@@ -6,7 +6,7 @@
 #include <stdlib.h>
 #include <string.h>
 
-enum { LENGTH = 25360, SLOT = 264, SECTORS = 32, MARK = 0, CYLINDER = 2, SECTOR = 4, FLAG = 5 };
+enum { LENGTH = 25360, SLOT = 264, SECTORS = 32, MARK = 0, CYLINDER = 2, SECTOR = 4, FLAG = 5, PARTNER = 7 };
 
 static lanthewg_controller card;
 static uint8_t disk[LENGTH], none[1], area[LANTHEWG_LARGEST_AREA], given[LANTHEWG_LARGEST_AREA];
@@ -102,6 +102,41 @@ static void damage(unsigned code, int slot, int byte, uint8_t value, uint8_t add
     *at = was;
 }
 
+/* docs/REFERENCE.md, Damage. Track 1 is moved to track 2, and slot 0 of one of them is spoilt: the other says a code, and the spoilt
+ * one could be formatted, which the map would not outlive. With the 8 bytes of its ID written again the map is there. */
+static void mended(int spoilt, int other, unsigned said, uint8_t flag) {
+    const uint8_t own[8] = {0xA1, 0, (uint8_t)spoilt, 0, 0, flag, 0, (uint8_t)other};
+    static uint8_t kept[LENGTH];
+    uint8_t *id = disk + LANTHEWG_LABEL_SIZE + spoilt * SECTORS * SLOT;
+    memset(given, 0x5A, SLOT);
+    good(LANTHEWG_OPCODE_WRITE, SECTORS, 1);
+    expect(memcmp(id, own, sizeof own) == 0, "an ID as the page has it", flag);
+    memset(id, 0, sizeof own);
+    fails(LANTHEWG_SENSE_NO_ID, LANTHEWG_OPCODE_READ, (uint8_t)(spoilt * SECTORS), 1);
+    fails(said, LANTHEWG_OPCODE_READ, (uint8_t)(other * SECTORS), 1);
+    expect(disk[LANTHEWG_LABEL_SIZE + other * SECTORS * SLOT + PARTNER] == spoilt, "the other names the spoilt one", said);
+    memcpy(kept, disk, sizeof disk);
+    good(LANTHEWG_OPCODE_FORMAT_TRACK, (uint8_t)(spoilt * SECTORS), 1);
+    expect(!lanthewg_is_good(command(LANTHEWG_OPCODE_READ, SECTORS, 1)) || area[0] != 0x5A, "a map after a format", said);
+    memcpy(disk, kept, sizeof disk);
+    memcpy(id, own, sizeof own);
+    good(LANTHEWG_OPCODE_READ, SECTORS, 1);
+    expect(area[0] == 0x5A && area[255] == 0x5A, "a map in a pair that was mended", said);
+}
+
+/* The same page on 0Ah: a label written by hand, ten bytes and six zeros, is in force after a Reset, and not before. */
+static void label_by_hand(void) {
+    static const uint8_t label[LANTHEWG_LABEL_SIZE] = {0, 3, 1, 0, 1, 0, 0, 0, 0, 11};
+    memset(disk, 0xEE, sizeof label);
+    lanthewg_fresh(&card, disk, LENGTH, none, 0, none, 0, none, 0);
+    fails(LANTHEWG_SENSE_NO_PARAMETERS, LANTHEWG_OPCODE_READ, 32, 1);
+    memcpy(disk, label, sizeof label);
+    fails(LANTHEWG_SENSE_NO_PARAMETERS, LANTHEWG_OPCODE_READ, 32, 1);
+    lanthewg_reset(&card, disk, LENGTH, none, 0, none, 0, none, 0);
+    good(LANTHEWG_OPCODE_READ, 32, 1);
+    expect(area[0] == 0x5A, "a map on a disk whose label was written by hand", 0);
+}
+
 /* Length and one less: with the first the command is not refused, with the second it is, with this number. */
 static void takes(const uint8_t block[6], size_t length, size_t size, unsigned number) {
     for (size_t less = 0; less < 2; less++) {
@@ -173,6 +208,9 @@ int main(void) {
     damage(LANTHEWG_SENSE_UNKNOWN_FLAG, 0, FLAG, 4, 0);
     damage(LANTHEWG_SENSE_NO_SECTOR, 5, SECTOR, 99, 5);
     damage(LANTHEWG_SENSE_NO_PARTNER, 2 * SECTORS, FLAG, 0, 32);
+    mended(2, 1, LANTHEWG_SENSE_NO_PARTNER, 3);
+    mended(1, 2, LANTHEWG_SENSE_TAKEN, 2);
+    label_by_hand();
     lanthewg_fresh(&card, none, 0, none, 0, none, 0, none, 0);
     memset(disk, 0, sizeof disk);
     sizes();

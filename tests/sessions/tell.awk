@@ -58,7 +58,7 @@ BEGIN {
     for (i in rows) commands[substr(rows[i], 1, 2)] = substr(rows[i], 4)
     split("04 there is no such drive|0A the drive has no parameters|10 the track's ID has no known flag|12 the track has no ID|" \
         "14 the track does not hold this sector|15 the track's ID is that of another track|" \
-        "16 the drive's parameters are pending: a format of the drive comes first|19 the track is flagged as bad|" \
+        "16 the parameters are pending: Reset brings the disk's own back; a format from track 0 loses everything|19 the track is flagged as bad|" \
         "1A the track was not formatted with this interleave|1C the track is in use as an alternate|1D one of a pair would be freed|" \
         "1E the track's alternate does not name it back|1F the alternate is moved or bad|20 there is no such command|" \
         "21 the address is past the end|22 block or data are not valid", rows, "|")

@@ -33,7 +33,7 @@ pub const STATUS_ERROR: u8 = 0x02;
 pub const SENSE_NONE: u8 = 0x00;
 /// There is no such drive.
 pub const SENSE_ABSENT: u8 = 0x04;
-/// Neither a label nor Initialize gave any.
+/// No parameters are in force that are valid with the image; Reset takes the label's.
 pub const SENSE_NO_PARAMETERS: u8 = 0x0A;
 /// The track's first ID has a flag above 3.
 pub const SENSE_UNKNOWN_FLAG: u8 = 0x10;
@@ -43,7 +43,8 @@ pub const SENSE_NO_ID: u8 = 0x12;
 pub const SENSE_NO_SECTOR: u8 = 0x14;
 /// The track's first ID is another track's.
 pub const SENSE_OTHER_TRACK: u8 = 0x15;
-/// Initialize's parameters wait for a Format Drive from track 0.
+/// Initialize's parameters are pending: Reset brings the disk's own back; a Format Drive from track 0
+/// stores them and loses everything.
 pub const SENSE_PENDING: u8 = 0x16;
 /// The track is flagged as bad.
 pub const SENSE_BAD_TRACK: u8 = 0x19;

@@ -79,6 +79,7 @@ pub struct Answer {
     pub number: u8,
     /// 32 × drive, and [`STATUS_ERROR`] after a failure. 0 after a refusal.
     pub status: u8,
+    /// Always 0.
     pub message: u8,
     /// Sectors done.
     pub sectors: u16,
@@ -174,7 +175,8 @@ impl Controller {
         record
     }
 
-    /// Reset: as `fresh`, and its answer is always good.
+    /// Reset: as `fresh`, and its answer is always good. Also after a change of disk, before any other
+    /// command: without it the former disk's parameters stay in force.
     #[inline]
     pub fn reset(&mut self, images: [&[u8]; 4]) -> Answer {
         let [image0, image1, image2, image3] = images;
