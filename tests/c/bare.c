@@ -1,4 +1,4 @@
-/* The archive with no C library: its own start, its own memcpy and memset, linked with -nostdlib -static. A disk is initialized,
+/* The archive with no C library: its own start, its own memcpy, memmove and memset, linked with -nostdlib -static. A disk is initialized,
  * formatted, written and, after a Reset, read. Its status is 0, or the number of the step that went wrong. */
 #include "lanthewg.h"
 
@@ -7,10 +7,18 @@ enum { LENGTH = 25360, SECTOR = 256, FILL = 0x6C };
 static uint8_t disk[LENGTH], none[1], area[SECTOR], map[SECTOR];
 static lanthewg_controller card;
 
-/* Not loops, of which a compiler may make calls of memcpy and memset again. */
+/* Not loops, of which a compiler may make calls of these functions again. */
 void *memcpy(void *to, const void *from, size_t count) {
     void *at = to;
     __asm__ volatile("rep movsb" : "+D"(at), "+S"(from), "+c"(count) : : "memory");
+    return to;
+}
+
+void *memmove(void *to, const void *from, size_t count) {
+    if ((uintptr_t)to - (uintptr_t)from >= count) return memcpy(to, from, count);
+    char *last = (char *)to + count - 1;
+    const char *source = (const char *)from + count - 1;
+    __asm__ volatile("std; rep movsb; cld" : "+D"(last), "+S"(source), "+c"(count) : : "memory", "cc");
     return to;
 }
 

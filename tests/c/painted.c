@@ -1,5 +1,5 @@
 /* How deep the calls go, in a run: every command, on a painted stack, of which the bytes that were never written are counted.
- * Prints what was used below the caller's frame: the calls, the arguments on the stack, and what memcpy and memset use. */
+ * Prints what was used below the caller's frame: the calls, the arguments on the stack, and what memcpy, memmove and memset use. */
 #define _XOPEN_SOURCE 600
 #include "lanthewg.h"
 

@@ -1,6 +1,6 @@
 # The deepest stack of each exported function, from 'objdump -dr --no-show-raw-insn': frames are added up along every path of calls.
 # A frame is the return address, each push and what is subtracted from rsp, as if all of them were reached; a function that calls
-# none may use the red zone besides. What memcpy and memset need is not counted but for their return address. It fails where the
+# none may use the red zone besides. What memcpy, memmove and memset need is not counted but for their return address. It fails where the
 # sum would not be an upper bound: a call or a stack that is not known, or a function that reaches itself.
 function refuse(why) { print "stack: " why " in " name > "/dev/stderr"; wrong = 1; exit 1 }
 function hex(digits,    i, n) {
@@ -8,7 +8,7 @@ function hex(digits,    i, n) {
     return n
 }
 function deepest(f,    i, most, below, list, n) {
-    if (f == "memcpy" || f == "memset") return 8
+    if (f == "memcpy" || f == "memmove" || f == "memset") return 8
     if (!(f in frame)) { name = f; refuse("no code") }
     if (f in under) { name = f; refuse("a cycle") }
     under[f] = 1

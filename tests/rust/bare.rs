@@ -23,6 +23,16 @@ pub unsafe extern "C" fn memcpy(to: *mut u8, from: *const u8, count: usize) -> *
 }
 
 #[no_mangle]
+pub unsafe extern "C" fn memmove(to: *mut u8, from: *const u8, count: usize) -> *mut u8 {
+    if (to as usize).wrapping_sub(from as usize) >= count {
+        return memcpy(to, from, count);
+    }
+    let (last, source) = (to.wrapping_add(count - 1), from.wrapping_add(count - 1));
+    asm!("std", "rep movsb", "cld", inout("rcx") count => _, inout("rdi") last => _, inout("rsi") source => _);
+    to
+}
+
+#[no_mangle]
 pub unsafe extern "C" fn memset(to: *mut u8, byte: i32, count: usize) -> *mut u8 {
     asm!("rep stosb", inout("rcx") count => _, inout("rdi") to => _, in("al") byte as u8);
     to

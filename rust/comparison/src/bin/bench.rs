@@ -4,7 +4,7 @@
 //! `cargo run --offline --release --manifest-path rust/Cargo.toml --bin bench` prints a table of
 //! nanoseconds a call and of ratios. `bench count DISK ROW CALLS` prepares a disk and makes that many
 //! calls of the proved library, for `tests/instructions`, which has valgrind count them; `bench rows`
-//! lists disks and rows.
+//! lists disks and rows, and a count takes any `Read N`, `Write N` and `Format N tracks` besides.
 
 use std::hint::black_box;
 use std::ops::Range;
@@ -355,13 +355,32 @@ fn rows() {
     }
 }
 
+/// The block of a transfer of so many sectors, or of a format of so many tracks up to the last: to see how cost grows.
+fn grown(disk: &Disk, memory: &mut Memory, wanted: &str) -> [u8; 6] {
+    let words: Vec<&str> = wanted.split(' ').collect();
+    let number: u32 = words[1].parse().expect("a number of sectors or tracks");
+    match words[0] {
+        "Read" => disk.block(0x08, memory.address(disk, number), number as u8),
+        "Write" => disk.block(0x0A, memory.address(disk, number), number as u8),
+        _ => {
+            let tracks = disk.tracks as u32;
+            disk.block(0x04, (tracks - number) * (disk.sectors / tracks), 5)
+        }
+    }
+}
+
 fn count(name: &str, wanted: &str, calls: u32) {
     let disk = DISKS.iter().find(|disk| disk.name == name).expect("a disk of `bench rows`");
-    let is_wanted = |row: &&Row| title(**row, disk) == wanted;
-    let row = disk.rows.iter().find(is_wanted).expect("a row of `bench rows`");
     let mut memory = Memory::new(disk);
     let (_, mut proved) = in_use(disk, &mut memory);
-    commands(&mut proved, disk, *row)(&mut memory, calls);
+    if let Some(&row) = disk.rows.iter().find(|&&row| title(row, disk) == wanted) {
+        commands(&mut proved, disk, row)(&mut memory, calls);
+    } else {
+        for _ in 0..calls {
+            let block = grown(disk, &mut memory, wanted);
+            execute(&mut proved, disk, &mut memory, &block);
+        }
+    }
 }
 
 fn main() {
