@@ -7,7 +7,7 @@ use native.Mathlib.Omega.{arith}
 use native.Mathlib.Decide.{decLt}
 use native.Mathlib.Nat.{mul-le-mul-right, zero-mul, add-zero, eq-or-lt-of-le, le-of-suc-le-suc}
 use lib.ListN.{length, take, drop, getD, length-append, length-take, length-drop, take-append-drop, drop-of-length-le}
-use lib.Seq.{take-append-le, drop-append-le, take-at, drop-at, take-take, drop-drop, drop-append-add, length-take-le, take-add, getD-take, getD-drop}
+use lib.Seq.{take-append-le, drop-append-le, take-at, drop-at, take-take, drop-drop, drop-append-add, length-take-le, take-add}
 use borrow.Rule.Slice.PartMut.{putMid, post-is}
 use Rattle.base.specs.Part.{part, splice, rows}
 
@@ -41,11 +41,6 @@ part-lent a e size xs h = let z : e - a ≡ size = omega arith in rw z
 pub splice-lent : (a e : ℕ) (xs ys : List ℕ) → a + length ys ≡ e → putMid a (e - a) xs ys ≡ splice a ys xs
 unfolding splice
 splice-lent a e xs ys h = rw h (ap (λ (r : List ℕ). take a xs ++ (ys ++ r)) (post-is a e xs (omega arith)))
-
--- an element of a part
-pub part-at : (at size i : ℕ) (xs : List ℕ) → i < size → getD (part at size xs) i 0 ≡ getD xs (at + i) 0
-unfolding part
-part-at at size i xs h = rw (getD-take, getD-drop)
 
 -- ---- a part after a replacement: the part replaced, one before it, one behind it
 drop-splice : (at : ℕ) (ys xs : List ℕ) → at + length ys ≤ length xs → drop at (splice at ys xs) ≡ ys ++ drop (at + length ys) xs
