@@ -1,6 +1,6 @@
 -- Laws of slots noted by sector, and of the loop that looks at slots until one is noted.
 use mathlib.Core.Path.{_≡_, refl, sym, ap, _∙_}
-use mathlib.Core.Bool.{Bool, true, false, _&&_, and-false}
+use mathlib.Core.Bool.{Bool, true, false, _&&_, and-false, true≢false}
 use mathlib.Core.Option.{Option, none, some, orElse}
 use mathlib.Core.List.{List}
 use Prim.Native.Nat.{ℕ, zero, suc, _+_, _-_, _*_, _≤_, _<_}
@@ -10,9 +10,10 @@ use native.Mathlib.Nat.{suc-add, mul-le-mul-right}
 use lib.ListN.{length, getD, set, take, drop, length-set}
 use lib.Seq.{getD-set-same, getD-set-other}
 use lib.Dec.{eqb, ltb}
-use borrow.Author.Tests.{lt-ltb, le-ltb, eq-eqb, ne-eqb}
+use borrow.Author.Tests.{lt-ltb, le-ltb, eq-eqb, ne-eqb, eqb-true}
 use Rattle.base.specs.Pick.{pick}
 use Rattle.base.specs.First.{firstFrom, firstBelow}
+use Rattle.base.proofs.Bools.{both-true}
 use Rattle.base.proofs.Decide.{pick-false}
 use Rattle.base.proofs.Parts.{getD-any}
 use Rattle.base.proofs.Firsts.{first-some}
@@ -24,7 +25,7 @@ use Rattle.track.specs.Image.{slotId}
 use Rattle.track.specs.Find.{holds, slotUsed}
 use Rattle.track.specs.Search.{noteOf, noted, Noted}
 use Rattle.track.proofs.Finds.{id-lent, place-more}
-use Rattle.track.proofs.Seeks.{holdsAt}
+use Rattle.track.proofs.Seeks.{holdsId, holdsAt}
 
 -- ---- the first of c + d numbers is the first of the c, or else the first of the d behind them
 first-step : (test : ℕ → Bool) (k c d : ℕ) (b : Bool) → firstFrom test (suc k) (c + d) ≡ orElse (firstFrom test (suc k) c) (firstFrom test (k + suc c) d)
@@ -106,6 +107,25 @@ module _ (id : Id) (k : ℕ) (slots : List ℕ) where
         by (yes e) = let z : ltb q 32 ≡ true = lt-ltb q 32 (omega arith) in rw (e, z, eq-eqb q q refl) (at-same _)
         by (no ne) = at-other _ (λ e. ne (sym e)) ∙ sym (pick-false _ k _ (rw (ne-eqb (id .sector) q ne) (and-false (eqb (id .mark) 0xA1))))
 
+-- an ID looked at while none is noted for s, by whether it is s's
+and-more : (m q x : Bool) → (m && q) ≡ false → (m && (q && x)) ≡ false
+and-more true true x e = absurd (true≢false e)
+and-more true false x e = refl
+and-more false q x e = refl
+
+module _ (id : Id) (k : ℕ) (slots : List ℕ) (s : ℕ) (h : s < 32) where
+  noted-own : getD slots s 0xFF ≡ 0xFF → (eqb (id .mark) 0xA1 && eqb (id .sector) s) ≡ true → set slots s k ≡ noted id k slots
+  unfolding noted pick
+  noted-own u e =
+      let b = both-true (eqb (id .mark) 0xA1) (eqb (id .sector) s) e in
+      rw (b .0, eqb-true (id .sector) s (b .1), lt-ltb s 32 h, u)
+
+  noted-other : length slots ≡ 32 → getD slots s 0xFF ≡ 0xFF → (eqb (id .mark) 0xA1 && eqb (id .sector) s) ≡ false
+      → getD (noted id k slots) s 0xFF ≡ 0xFF
+  noted-other l u e =
+      noted-at id k slots s (omega arith) l
+      ∙ pick-false _ k _ (and-more (eqb (id .mark) 0xA1) (eqb (id .sector) s) (eqb (getD slots s 0xFF) 0xFF) e) ∙ u
+
 -- the note of the first among one number more
 note-next : (k : ℕ) (m s : Bool) (o : Option ℕ) → ((j : ℕ) → o ≡ some j → j < 0xFF) → pick (m && (s && eqb (noteOf o) 0xFF)) k (noteOf o) ≡ noteOf (orElse o (pick (m && s) (some k) none))
 unfolding pick orElse noteOf
@@ -180,13 +200,43 @@ abbrev pub Found : Params → (bytes slots : List ℕ) → (looked s : ℕ) → 
 Found p bytes slots looked s =
     (length slots ≡ 32) × (looked ≤ p .sectors) × Noted p bytes slots looked × (getD slots s 0xFF ≡ noteOf (slotUsed p s bytes))
 
-module _ (p : Params) (size : ℕ) (bytes slots : List ℕ) (at k : ℕ) (es : size ≡ slotSize p) (w : Looked size (p .sectors) bytes slots at k) (s : ℕ) (hs : s < 32) where
-  -- a slot is noted for s
-  pub looked-found : (getD slots s 0 ≡ 0xFF → ⊥) → Found p bytes slots k s
-  looked-found ne =
-      let z : getD slots s 0 ≡ getD slots s 0xFF = getD-any slots s 0 0xFF (omega (arith, w .long)) in
-      (w .long, w .most, w .notes p es, noted-found p bytes slots k (w .notes p es) s hs (w .most) (λ e. ne (z ∙ e)))
+-- a slot is noted for s
+pub found-noted : (p : Params) (bytes slots : List ℕ) (k s : ℕ) → length slots ≡ 32 → k ≤ p .sectors → Noted p bytes slots k → s < 32
+    → (getD slots s 0 ≡ 0xFF → ⊥) → Found p bytes slots k s
+found-noted p bytes slots k s l h w hs ne =
+    let z : getD slots s 0 ≡ getD slots s 0xFF = getD-any slots s 0 0xFF (omega arith) in
+    (l, h, w, noted-found p bytes slots k w s hs h (λ e. ne (z ∙ e)))
+
+-- the loop has not met s: the first k slots are noted, and none for s
+pub record Looking (size n s : ℕ) (bytes slots : List ℕ) (at k : ℕ) : Type 0 where
+  pub looked : Looked size n bytes slots at k
+  pub none : getD slots s 0 ≡ 0xFF
+
+module _ (p : Params) (size s : ℕ) (bytes slots : List ℕ) (at k : ℕ) (w : Looking size (p .sectors) s bytes slots at k) (hs : s < 32) where
+  none-there : getD slots s 0xFF ≡ 0xFF
+  none-there = getD-any slots s 0xFF 0 (omega (arith, w .looked .long)) ∙ w .none
+
+  -- slot k is looked at
+  module _ (h : k < p .sectors) (m : p .sectors ≤ 32) (is : Bool) (e : is ≡ holdsId s (take (at + 8 - at) (drop at bytes))) where
+    -- it holds s
+    pub looking-hit : size ≡ slotSize p → is ≡ true → Found p bytes (set slots s k) (k + 1) s
+    looking-hit es z =
+        let own = noted-own _ k slots s hs none-there (sym e ∙ z) in
+        let next = looked-more size (p .sectors) bytes slots (set slots s k) at k (w .looked) own h m in
+        found-noted p bytes (set slots s k) (k + 1) s (next .long) (next .most) (next .notes p es) hs
+        (λ q. omega (arith, q, getD-set-same slots s k 0 (omega (arith, w .looked .long))))
+
+    -- it does not, and is noted
+    pub looking-more : (more : List ℕ) → more ≡ noted (idIn (take (at + 8 - at) (drop at bytes))) k slots → is ≡ false
+        → Looking size (p .sectors) s bytes more (at + size) (k + 1)
+    looking-more more en z =
+        let next = looked-more size (p .sectors) bytes slots more at k (w .looked) en h m in
+        let same : getD more s 0 ≡ getD more s 0xFF = getD-any more s 0 0xFF (omega (arith, next .long)) in
+        let left = noted-other _ k slots s hs (w .looked .long) none-there (sym e ∙ z) in
+        record { looked = next; none = same ∙ ap (λ (l : List ℕ). getD l s 0xFF) en ∙ left }
 
   -- no slot is left
-  pub looked-all : p .sectors ≤ k → Found p bytes slots k s
-  looked-all h = (w .long, w .most, w .notes p es, noted-all p bytes slots k (w .notes p es) s hs (omega (arith, w .most)))
+  pub looking-all : size ≡ slotSize p → p .sectors ≤ k → Found p bytes slots k s
+  looking-all es h =
+      let l = w .looked in
+      (l .long, l .most, l .notes p es, noted-all p bytes slots k (l .notes p es) s hs (omega (arith, l .most)))

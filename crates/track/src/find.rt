@@ -102,7 +102,7 @@ pub fn where_is(image: &[u8], p: Params, t: Track) -> Where
 }
 
 // Whether a slot with these ID bytes holds sector s.
-fn holds(id: &[u8], s: usize) -> bool
+pub fn holds(id: &[u8], s: usize) -> bool
     requires { ⌜ 8 ≤ length (now id) ⌝ }
     ensures { λ r. ⌜ r ≡ (eqb (idIn (now (id .entry)) .mark) 0xA1 && eqb (idIn (now (id .entry)) .sector) s) ⌝ }
 {
