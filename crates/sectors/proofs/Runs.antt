@@ -4,7 +4,7 @@ use mathlib.Core.Option.{none, some}
 use mathlib.Core.List.{List, [], _++_}
 use Prim.Native.Nat.{ℕ, suc, _+_, _-_, _*_, _≤_, _<_}
 use native.Mathlib.Omega.{arith}
-use native.Mathlib.Nat.{zero-mul, suc-mul, sub-zero, add-zero}
+use native.Mathlib.Nat.{zero-mul, suc-mul}
 use native.Mathlib.Numerals.{add-one}
 use lib.ListN.{length, take, drop, replicate, length-replicate, getD-replicate}
 use Rattle.base.specs.First.{firstFrom, firstBelow}
@@ -48,21 +48,23 @@ module _ (p : Params) (m s : ℕ) (bytes : List ℕ) where
   unfolding runWritten onSlot
   written-some given k e = rw e
 
--- ---- either loop: i sectors are done, and what is left, counted from here, gives the whole
-pub record Upto (p : Params) (m s : ℕ) (bytes slots : List ℕ) (looked at i : ℕ) : Type 0 where
-  pub most : i ≤ m
-  pub place : at ≡ i * p .size
+-- ---- either loop: the sectors before q are done, and what is left, counted from here, gives the whole
+pub record Upto (p : Params) (m s : ℕ) (bytes slots : List ℕ) (looked at q : ℕ) : Type 0 where
+  pub from : s ≤ q
+  pub most : q ≤ s + m
+  pub place : at ≡ (q - s) * p .size
   pub long : length slots ≡ 32
   pub seen : looked ≤ p .sectors
   pub noted : Noted p bytes slots looked
-  pub done : runDone p m s bytes ≡ i + runDone p (m - i) (s + i) bytes
+  pub done : runDone p m s bytes ≡ q - s + runDone p (s + m - q) q bytes
 
 -- the rest is one sector, and then the rest
-pub left-next : (m i : ℕ) → i < m → m - i ≡ suc (m - (i + 1))
-left-next m i l = omega arith
+pub left-next : (e q : ℕ) → q < e → e - q ≡ suc (e - (q + 1))
+left-next e q l = omega arith
 
-pub sector-next : (s i : ℕ) → s + (i + 1) ≡ suc (s + i)
-sector-next s i = omega arith
+-- at first all is left
+pub left-all : (m s : ℕ) → s + m - s ≡ m
+left-all m s = omega arith
 
 module _ (p : Params) (m s : ℕ) (bytes : List ℕ) where
   -- none is noted at first
@@ -70,41 +72,46 @@ module _ (p : Params) (m s : ℕ) (bytes : List ℕ) where
   unfolding Noted noteOf firstBelow firstFrom
   noted-none t h = getD-replicate 32 t 0xFF 0xFF h
 
-  pub upto-none : Upto p m s bytes (replicate 32 0xFF) 0 0 0
-  upto-none = record {
-    most = omega arith;
-    place = sym (zero-mul (p .size));
-    long = length-replicate {A = ℕ} 32 0xFF;
-    seen = omega arith;
-    noted = noted-none;
-    done = rw (sub-zero, add-zero) (omega arith);
-  }
+  pub upto-none : Upto p m s bytes (replicate 32 0xFF) 0 0 s
+  upto-none =
+      let none : s - s ≡ 0 = omega arith in
+      record {
+        from = omega arith;
+        most = omega arith;
+        place = rw none (sym (zero-mul (p .size)));
+        long = length-replicate {A = ℕ} 32 0xFF;
+        seen = omega arith;
+        noted = noted-none;
+        done = rw (none, left-all m s) (omega arith);
+      }
 
-  module _ (slots : List ℕ) (looked at i : ℕ) (u : Upto p m s bytes slots looked at i) where
-    pub upto-room : i < m → at + p .size ≤ m * p .size
-    upto-room l = omega (arith, u .place, cell-in (p .size) i m l)
+  module _ (slots : List ℕ) (looked at q : ℕ) (u : Upto p m s bytes slots looked at q) where
+    pub upto-room : q < s + m → at + p .size ≤ m * p .size
+    upto-room l = omega (arith, u .place, cell-in (p .size) (q - s) m (omega (arith, u .from)))
 
-    pub upto-all : m ≤ i → i ≡ runDone p m s bytes
+    pub upto-all : s + m ≤ q → m ≡ runDone p m s bytes
     unfolding runDone
     upto-all l =
-        let none : m - i ≡ 0 = omega arith in
-        let d : runDone p m s bytes ≡ i + 0 = rw none at (u .done) in
-        omega arith
+        let none : s + m - q ≡ 0 = omega arith in
+        let d : runDone p m s bytes ≡ q - s + 0 = rw none at (u .done) in
+        omega (arith, u .most)
 
-    module _ (l : i < m) where
-      pub upto-stop : slotUsed p (s + i) bytes ≡ none → i ≡ runDone p m s bytes
+    module _ (l : q < s + m) where
+      pub upto-stop : slotUsed p q bytes ≡ none → q - s ≡ runDone p m s bytes
       upto-stop e =
-          let step : runDone p (m - i) (s + i) bytes ≡ 0 = rw (left-next m i l) (done-none p (m - (i + 1)) (s + i) bytes e) in
+          let step : runDone p (s + m - q) q bytes ≡ 0 = rw (left-next (s + m) q l) (done-none p (s + m - (q + 1)) q bytes e) in
           omega (arith, u .done)
 
-      pub upto-more : (now : List ℕ) (seen k : ℕ) → Found p bytes now seen (s + i) → slotUsed p (s + i) bytes ≡ some k
-          → Upto p m s bytes now seen (at + p .size) (i + 1)
+      pub upto-more : (now : List ℕ) (seen k : ℕ) → Found p bytes now seen q → slotUsed p q bytes ≡ some k
+          → Upto p m s bytes now seen (at + p .size) (q + 1)
       upto-more now seen k f e =
-          let step : runDone p (m - i) (s + i) bytes ≡ suc (runDone p (m - (i + 1)) (s + (i + 1)) bytes) =
-          rw (left-next m i l, sector-next) (done-some p (m - (i + 1)) (s + i) bytes k e) in
+          let step : runDone p (s + m - q) q bytes ≡ suc (runDone p (s + m - (q + 1)) (q + 1) bytes) =
+          rw (left-next (s + m) q l) (rw (← add-one q) at (done-some p (s + m - (q + 1)) q bytes k e)) in
+          let one : q + 1 - s ≡ suc (q - s) = omega (arith, u .from) in
           record {
+            from = omega (arith, u .from);
             most = omega arith;
-            place = rw (add-one, suc-mul) (omega (arith, u .place));
+            place = rw (one, suc-mul) (omega (arith, u .place));
             long = f .0;
             seen = f .1;
             noted = f .2;

@@ -22,20 +22,21 @@ pub fn read_run(track: &[u8], p: Params, s: usize, m: usize, places: &mut [u8]) 
     let mut slots = [NO_SLOT; 32];
     let mut looked = 0;
     let mut at = 0;
-    let mut i = 0;
-    while i < m {
-        looked = look_for(track, p, &mut slots, looked, s + i);
-        let k = slots[s + i];
+    let past = s + m;
+    let mut q = s;
+    while q < past {
+        looked = look_for(track, p, &mut slots, looked, q);
+        let k = slots[q];
         if k == NO_SLOT {
-            return i;
+            return q - s;
         }
         let end = at + size;
         let slot = slot_at(track, p, k as usize);
         move_bytes(&mut places[at..end], slot_data(slot, p));
         at = end;
-        i += 1;
+        q += 1;
     }
-    i
+    m
 }
 
 // Writes m sectors from s on, up to the first that no slot has. Answers how many.
@@ -47,17 +48,18 @@ pub fn write_run(track: &mut [u8], p: Params, s: usize, m: usize, given: &[u8]) 
     let mut slots = [NO_SLOT; 32];
     let mut looked = 0;
     let mut at = 0;
-    let mut i = 0;
-    while i < m {
-        looked = look_for(track, p, &mut slots, looked, s + i);
-        let k = slots[s + i];
+    let past = s + m;
+    let mut q = s;
+    while q < past {
+        looked = look_for(track, p, &mut slots, looked, q);
+        let k = slots[q];
         if k == NO_SLOT {
-            return i;
+            return q - s;
         }
         let end = at + size;
         write_data(track, p, k as usize, &given[at..end]);
         at = end;
-        i += 1;
+        q += 1;
     }
-    i
+    m
 }

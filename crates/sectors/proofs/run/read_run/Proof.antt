@@ -8,10 +8,13 @@ use Rattle.sectors.proofs.run.read_run.Statement.{statement}
 use Rattle.sectors.proofs.run.read_run.Tie as tie
 
 abbrev Inv-loop : tie.InvT-loop
-Inv-loop track p s m places₀ size slots₀ looked₀ at₀ i₀ places slots looked at i = Reading p m s track places₀ places slots looked at i
+Inv-loop track p s m places₀ size slots₀ looked₀ at₀ past q₀ places slots looked at q = Reading p m s track places₀ places slots looked at q
 
 abbrev μ-loop : tie.MeasureT-loop
-μ-loop track p s m places₀ size slots₀ looked₀ at₀ i₀ places slots looked at i = m - i
+μ-loop track p s m places₀ size slots₀ looked₀ at₀ past q₀ places slots looked at q = past - q
+
+add-past : tie.Need-add-past Inv-loop μ-loop
+add-past c = search needs
 
 loop-holds : tie.Need-loop-holds Inv-loop μ-loop
 loop-holds c = reading-none _ _ _ _ _
@@ -19,17 +22,14 @@ loop-holds c = reading-none _ _ _ _ _
 slice-aggregate-look-for : tie.Need-slice-aggregate-look-for Inv-loop μ-loop
 slice-aggregate-look-for c = sym (c .before .before .loop .inv .upto .long)
 
-add-look-for : tie.Need-add-look-for Inv-loop μ-loop
-add-look-for c = search needs
-
 look-for-requires : tie.Need-look-for-requires Inv-loop μ-loop
 look-for-requires c κs = search needs
 
-add-k : tie.Need-add-k Inv-loop μ-loop
-add-k c = search needs
-
 array-read-k : tie.Need-array-read-k Inv-loop μ-loop
 array-read-k c = search needs
+
+sub-result : tie.Need-sub-result Inv-loop μ-loop
+sub-result c = search needs
 
 same-length : tie.Need-same-length Inv-loop μ-loop
 same-length c = search needs
@@ -46,7 +46,7 @@ room c = reading-room _ _ _ _ _ _ _ _ _ _ (c .before .loop .inv) (c .before .bef
 
 there : (c : tie.Else1 Inv-loop μ-loop)
     → getD (c .before .before .look-for .last .1 .1 .0)
-    (c .before .before .before .before .before .before .before .before .args .s + c .before .before .before .before .before .loop .i) 0
+    (c .before .before .before .before .before .loop .q) 0
     < c .before .before .before .before .before .before .before .before .args .p .sectors
 there c =
     let in-loop = c .before .before .before .before in
@@ -85,8 +85,8 @@ move-bytes-requires c κs =
     let copied = data-long _ _ (a .pre .1) _ (there called) _ (c .before .before .slot-at .ensures) _ (c .slot-data .ensures) in
     simp (length-take, length-drop, copied) (omega (arith, room in-loop))
 
-add-i : tie.Need-add-i Inv-loop μ-loop
-add-i c = search needs
+add-q : tie.Need-add-q Inv-loop μ-loop
+add-q c = search needs
 
 loop-less : tie.Need-loop-less Inv-loop μ-loop
 loop-less c = search needs
@@ -112,12 +112,12 @@ read-run-spec =
     (tie.spec
     Inv-loop
     μ-loop
+    add-past
     loop-holds
     slice-aggregate-look-for
-    add-look-for
     look-for-requires
-    add-k
     array-read-k
+    sub-result
     same-length
     returns
     add-end
@@ -128,7 +128,7 @@ read-run-spec =
     part-move-bytes-end
     slot-data-requires
     move-bytes-requires
-    add-i
+    add-q
     loop-less
     loop-again
     same-length-2

@@ -8,10 +8,13 @@ use Rattle.sectors.proofs.run.write_run.Statement.{statement}
 use Rattle.sectors.proofs.run.write_run.Tie as tie
 
 abbrev Inv-loop : tie.InvT-loop
-Inv-loop track₀ p s m given size slots₀ looked₀ at₀ i₀ track slots looked at i = Writing p m s given track₀ track slots looked at i
+Inv-loop track₀ p s m given size slots₀ looked₀ at₀ past q₀ track slots looked at q = Writing p m s given track₀ track slots looked at q
 
 abbrev μ-loop : tie.MeasureT-loop
-μ-loop track₀ p s m given size slots₀ looked₀ at₀ i₀ track slots looked at i = m - i
+μ-loop track₀ p s m given size slots₀ looked₀ at₀ past q₀ track slots looked at q = past - q
+
+add-past : tie.Need-add-past Inv-loop μ-loop
+add-past c = search needs
 
 loop-holds : tie.Need-loop-holds Inv-loop μ-loop
 loop-holds c = writing-none _ _ _ _ _
@@ -19,20 +22,17 @@ loop-holds c = writing-none _ _ _ _ _
 slice-aggregate-look-for : tie.Need-slice-aggregate-look-for Inv-loop μ-loop
 slice-aggregate-look-for c = sym (c .before .before .before .loop .inv .upto .long)
 
-add-look-for : tie.Need-add-look-for Inv-loop μ-loop
-add-look-for c = search needs
-
 look-for-requires : tie.Need-look-for-requires Inv-loop μ-loop
 look-for-requires c κs =
     let w = c .before .before .before .loop .inv in
     let a = c .before .before .before .before .before .before in
     (a .pre .0, w .len ∙ a .pre .1, w .upto .long, w .upto .seen, omega (arith, a .pre .2), writing-noted _ _ _ _ _ _ _ _ _ _ w)
 
-add-k : tie.Need-add-k Inv-loop μ-loop
-add-k c = search needs
-
 array-read-k : tie.Need-array-read-k Inv-loop μ-loop
 array-read-k c = search needs
+
+sub-result : tie.Need-sub-result Inv-loop μ-loop
+sub-result c = search needs
 
 same-length : tie.Need-same-length Inv-loop μ-loop
 same-length c = search needs
@@ -50,7 +50,7 @@ room c = writing-room _ _ _ _ _ _ _ _ _ _ (c .before .loop .inv) (c .before .bef
 
 there : (c : tie.Else1 Inv-loop μ-loop)
     → getD (c .before .before .look-for .last .1 .1 .0)
-    (c .before .before .before .before .before .before .before .before .before .args .s + c .before .before .before .before .before .before .loop .i) 0
+    (c .before .before .before .before .before .before .loop .q) 0
     < c .before .before .before .before .before .before .before .before .before .args .p .sectors
 there c =
     let in-loop = c .before .before .before .before .before in
@@ -78,8 +78,8 @@ write-data-requires c κs =
     let a = in-loop .before .before .before .before in
     (a .pre .0, in-loop .before .loop .inv .len ∙ a .pre .1, there (c .before .before), simp (length-take, length-drop) (omega (arith, room in-loop)))
 
-add-i : tie.Need-add-i Inv-loop μ-loop
-add-i c = search needs
+add-q : tie.Need-add-q Inv-loop μ-loop
+add-q c = search needs
 
 loop-less : tie.Need-loop-less Inv-loop μ-loop
 loop-less c = search needs
@@ -103,12 +103,12 @@ write-run-spec =
     (tie.spec
     Inv-loop
     μ-loop
+    add-past
     loop-holds
     slice-aggregate-look-for
-    add-look-for
     look-for-requires
-    add-k
     array-read-k
+    sub-result
     same-length
     returns
     add-end
@@ -117,7 +117,7 @@ write-run-spec =
     part-write-data-start
     part-write-data-end
     write-data-requires
-    add-i
+    add-q
     loop-less
     loop-again
     same-length-2
