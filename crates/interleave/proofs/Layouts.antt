@@ -3,7 +3,7 @@ use Prim.Native.Nat.{ℕ, zero, suc, _+_, _-_, _%_, _≤_, _<_}
 use mathlib.Core.Path.{_≡_, refl, sym, ap, subst, _∙_}
 use mathlib.Core.Logic.{_⊎_, inl, inr, ⊎-elim}
 use mathlib.Core.List.{List, [], _∷_, _++_}
-use native.Mathlib.Nat.{mod-lt, mod-eq-of-lt, mod-self, not-suc-le-zero, le-of-suc-le-suc, eq-zero-or-pos, add-zero, zero-add, add-suc}
+use native.Mathlib.Nat.{mod-lt, mod-eq-of-lt, mod-eq-sub-mod, mod-self, not-suc-le-zero, le-of-suc-le-suc, eq-zero-or-pos, add-zero, zero-add, add-suc}
 use native.Mathlib.Numerals.{sub-one}
 use native.Mathlib.Decide.{ℕ-discrete, decLt}
 use native.Mathlib.Omega.{arith}
@@ -24,6 +24,16 @@ round-end p n e = ap (λ (k : ℕ). k % n) e ∙ mod-self n
 -- a number counted round is a slot's
 pub wrapped-lt : (x n r : ℕ) → 0 < n → r ≡ x % n → r < n
 wrapped-lt x n r h e = rw e (mod-lt x h)
+
+-- i steps on, short of the end and past it
+pub step-short : (p i n : ℕ) → p < n - i → p + i ≡ (p + i) % n
+step-short p i n h = sym (mod-eq-of-lt (omega arith))
+
+pub step-past : (p i n : ℕ) → p < n → i ≤ n → n - i ≤ p → p - (n - i) ≡ (p + i) % n
+step-past p i n pn le h =
+    let e : p - (n - i) ≡ p + i - n = omega arith in
+    let past : n ≤ p + i = omega arith in
+    e ∙ sym (mod-eq-sub-mod past ∙ mod-eq-of-lt (omega arith))
 
 -- j is reached from p in i steps, upward and round
 Reached : ℕ → ℕ → ℕ → ℕ → Type 0

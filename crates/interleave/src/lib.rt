@@ -5,15 +5,17 @@ ghost use mathlib.Core.List.{_++_};
 ghost use lib.ListN.{length, replicate};
 ghost use Rattle.interleave.specs.Layout.{emptyFrom, layoutOf};
 
-// slot mod n, without a division.
-fn wrapped(slot: usize, n: usize) -> usize
-    requires { ⌜ (0 < n) × (slot < n + n) ⌝ }
-    ensures { λ r. ⌜ r ≡ slot % n ⌝ }
+// (slot + step) mod n, without a division. The slot itself is compared, so that a walk of such steps waits for one sum at each
+// and not for two.
+fn wrapped(slot: usize, step: usize, n: usize) -> usize
+    requires { ⌜ (slot < n) × (step ≤ n) ⌝ }
+    ensures { λ r. ⌜ r ≡ (slot + step) % n ⌝ }
 {
-    if slot < n {
-        return slot;
+    let rest = n - step;
+    if slot < rest {
+        return slot + step;
     }
-    slot - n
+    slot - rest
 }
 
 // The first empty slot from `from` on, going upward and round. The entry n says that a slot is empty.
@@ -27,7 +29,7 @@ fn next_empty(map: &[u8], n: usize, from: usize) -> usize
         if map[slot] as usize == n {
             return slot;
         }
-        slot = wrapped(slot + 1, n);
+        slot = wrapped(slot, 1, n);
         left -= 1;
     }
     slot
@@ -44,7 +46,7 @@ pub fn layout(n: usize, f: usize) -> [u8; 32]
     let mut slot = 0;
     let mut s = 1;
     while s < n {
-        slot = next_empty(&map, n, wrapped(slot + f, n));
+        slot = next_empty(&map, n, wrapped(slot, f, n));
         map[slot] = s as u8;
         s += 1;
     }

@@ -66,6 +66,19 @@ fn is_split(s: Track, t: Track, state: State) -> bool
     }
 }
 
+// Whether track t is of a pair that a format from track s on would split. With flag 0 or 1, as most have, it is of none: that
+// byte is looked at first, since the whole state takes a division.
+fn splits_at(image: &[u8], p: Params, s: Track, t: Track) -> bool
+    requires { ⌜ Fits p (now image) × (t .0 < trackCount p) ⌝ }
+    ensures { λ r. ⌜ r ≡ splits s t (stateOf p t (now (image .entry))) ⌝ }
+{
+    let id = first_id(image, p, t);
+    if id.flag < 2 {
+        return false;
+    }
+    is_split(s, t, state_of(image, p, t))
+}
+
 // Whether some track of the drive is of a pair that a format from track s on would split.
 pub fn splits_pair(image: &[u8], p: Params, s: Track) -> bool
     requires { ⌜ Fits p (now image) ⌝ }
@@ -73,7 +86,7 @@ pub fn splits_pair(image: &[u8], p: Params, s: Track) -> bool
 {
     let mut t = Track::first();
     while p.has_track(t) {
-        if is_split(s, t, state_of(image, p, t)) {
+        if splits_at(image, p, s, t) {
             return true;
         }
         t = t.next();

@@ -25,9 +25,6 @@ loop-holds c = filled-first _ _ (omega arith) (omega arith)
 slice-aggregate-next-empty : tie.Need-slice-aggregate-next-empty Inv-loop μ-loop
 slice-aggregate-next-empty c = omega arith
 
-add-wrapped : tie.Need-add-wrapped Inv-loop μ-loop
-add-wrapped c = search needs
-
 wrapped-requires : tie.Need-wrapped-requires Inv-loop μ-loop
 wrapped-requires c κs = search needs
 
@@ -64,7 +61,6 @@ layout-spec =
     array-write-map
     loop-holds
     slice-aggregate-next-empty
-    add-wrapped
     wrapped-requires
     next-empty-requires
     cast-map

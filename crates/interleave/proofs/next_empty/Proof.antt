@@ -27,9 +27,6 @@ returns c =
     let l = c .before .before .before .loop in
     (sym (look-here _ _ (l .slot) (l .left) (c .before .before .loop-test .taken) (c .if1 .taken)) ∙ l .inv .2, l .inv .0)
 
-add-wrapped : tie.Need-add-wrapped Inv-loop μ-loop
-add-wrapped c = search needs
-
 wrapped-requires : tie.Need-wrapped-requires Inv-loop μ-loop
 wrapped-requires c κs = search needs
 
@@ -62,7 +59,6 @@ next-empty-spec =
     shared-slice-read-if1
     cast-if1
     returns
-    add-wrapped
     wrapped-requires
     sub-left
     loop-less

@@ -27,30 +27,26 @@ has-track-requires c κs = search needs
 on-drive : (c : tie.Then1 Inv-loop μ-loop) → c .before .before .loop .t .0 < trackCount (c .before .before .before .before .before .args .p)
 on-drive c = ltb-true _ _ (sym (c .before .has-track .ensures) ∙ c .if1 .taken)
 
-state-of-requires : tie.Need-state-of-requires Inv-loop μ-loop
-state-of-requires c κs = (c .before .before .before .before .before .pre, on-drive c)
-
-is-split-requires : tie.Need-is-split-requires Inv-loop μ-loop
-is-split-requires c κs = search needs
+splits-at-requires : tie.Need-splits-at-requires Inv-loop μ-loop
+splits-at-requires c κs = (c .before .before .before .before .before .pre, on-drive c)
 
 returns : tie.Need-returns Inv-loop μ-loop
 returns c =
-    let b = c .before .before .before in
-    whole-hit _ _ _ _ (b .before .before .loop .inv) _ _ (c .before .before .state-of .ensures) (c .before .is-split .ensures) (on-drive b) (c .if2 .taken)
+    let b = c .before .before in
+    whole-hit _ _ _ _ (b .before .before .loop .inv) _ (c .before .splits-at .ensures) (on-drive b) (c .if2 .taken)
 
 next-requires : tie.Need-next-requires Inv-loop μ-loop
 next-requires c κs =
-    let b = c .before .before .before in
+    let b = c .before .before in
     next-in _ _ (b .before .before .before .before .before .pre .within) (on-drive b)
 
 loop-less : tie.Need-loop-less Inv-loop μ-loop
-loop-less c = let b = c .before .before .before .before in next-less (b .before .before .before .before .before .args .p) _ _ (on-drive b) (c .next .ensures)
+loop-less c = let b = c .before .before .before in next-less (b .before .before .before .before .before .args .p) _ _ (on-drive b) (c .next .ensures)
 
 loop-again : tie.Need-loop-again Inv-loop μ-loop
 loop-again c =
-    let b = c .before .before .before .before in
-    whole-more _ _ _ _ (b .before .before .loop .inv) _ _ (c .before .before .before .state-of .ensures) (c .before .before .is-split .ensures) (on-drive b)
-    (c .before .if2 .left) _ (c .next .ensures)
+    let b = c .before .before .before in
+    whole-more _ _ _ _ (b .before .before .loop .inv) _ (c .before .before .splits-at .ensures) (on-drive b) (c .before .if2 .left) _ (c .next .ensures)
 
 returns-2 : tie.Need-returns-2 Inv-loop μ-loop
 returns-2 c = whole-all _ _ _ _ (c .before .before .loop .inv) (ltb-false _ _ (sym (c .before .has-track .ensures) ∙ c .if1 .left))
@@ -64,8 +60,7 @@ splits-pair-spec =
     first-requires
     loop-holds
     has-track-requires
-    state-of-requires
-    is-split-requires
+    splits-at-requires
     returns
     next-requires
     loop-less
