@@ -3,6 +3,7 @@ pub mod Parts
 pub mod Splices
 pub mod Firsts
 pub mod Sames
+pub mod Ones
 pub mod Copies
 pub mod Bools
 pub mod Fronts

@@ -1,9 +1,10 @@
-// Byte slices: copied, compared; a number of two bytes.
+// Byte slices: copied, set, compared; a number of two bytes.
+use crate::logic::both;
 ghost use mathlib.Core.Path.{_≡_};
 ghost use Prim.Native.Nat.{_+_, _*_, _≤_};
-ghost use lib.ListN.{length};
+ghost use lib.ListN.{length, replicate};
 ghost use Rattle.base.specs.Part.{splice};
-ghost use Rattle.base.specs.Same.{sameBytes};
+ghost use Rattle.base.specs.Same.{sameBytes, oneByte};
 
 // All of src into dst, which is as long, byte after byte.
 pub fn copy_bytes(dst: &mut [u8], src: &[u8])
@@ -31,6 +32,30 @@ pub fn move_bytes(dst: &mut [u8], src: &[u8])
     let mut room = [0u8; 512];
     copy_bytes(&mut room[0..n], src);
     copy_bytes(dst, &room[0..n]);
+}
+
+// Every byte becomes this one: LLVM makes a memset of it.
+pub fn set_bytes(dst: &mut [u8], byte: u8)
+    ensures { λ _. ⌜ now (dst .exit) ≡ replicate (length (now (dst .entry))) byte ⌝ }
+{
+    let mut i = 0;
+    while i < dst.len() {
+        dst[i] = byte;
+        i += 1;
+    }
+}
+
+// Whether the bytes are one byte, repeated. No early exit, so that LLVM compares many at once.
+pub fn one_byte(bytes: &[u8]) -> bool
+    ensures { λ r. ⌜ r ≡ oneByte (now (bytes .entry)) ⌝ }
+{
+    let mut same = 0 < bytes.len();
+    let mut i = 0;
+    while i < bytes.len() {
+        same = both(bytes[i] == bytes[0], same);
+        i += 1;
+    }
+    same
 }
 
 // Whether two slices of one length hold the same bytes.

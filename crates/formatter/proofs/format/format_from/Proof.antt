@@ -11,42 +11,45 @@ use Rattle.formatter.proofs.format.format_from.Statement.{statement}
 use Rattle.formatter.proofs.format.format_from.Tie as tie
 
 abbrev Inv-loop : tie.InvT-loop
-Inv-loop image₀ p map fill t₀ image t = Remade p map fill t₀ image₀ image t
+Inv-loop image₀ p map fill one t₀ image t = Remade p map fill t₀ image₀ image t
 
 abbrev μ-loop : tie.MeasureT-loop
-μ-loop image₀ p map fill t₀ image t = trackCount p - t .0
+μ-loop image₀ p map fill one t₀ image t = trackCount p - t .0
+
+one-byte-requires : tie.Need-one-byte-requires Inv-loop μ-loop
+one-byte-requires c κs = search needs
 
 loop-holds : tie.Need-loop-holds Inv-loop μ-loop
-loop-holds c = remade-none _ _ _ _ _ (c .before .before .before .pre .1)
+loop-holds c = remade-none _ _ _ _ _ (c .before .before .before .before .pre .1)
 
 has-track-requires : tie.Need-has-track-requires Inv-loop μ-loop
-has-track-requires c κs = c .before .before .before .before .pre .0 .within
+has-track-requires c κs = c .before .before .before .before .before .pre .0 .within
 
-format-at-requires : tie.Need-format-at-requires Inv-loop μ-loop
+format-track-requires : tie.Need-format-track-requires Inv-loop μ-loop
 unfolding partnerOf
-format-at-requires c κs =
-    let a = c .before .before .before .before .before .before .before in
-    (record { within = a .pre .0 .within; long = omega arith }, ltb-true _ _ (sym (c .before .before .has-track .ensures) ∙ c .before .if1 .taken), omega arith, a .pre .2, a .pre .3)
+format-track-requires c κs =
+    let a = c .before .before .before .before .before .before .before .before in
+    (record { within = a .pre .0 .within; long = omega arith }, ltb-true _ _ (sym (c .before .before .has-track .ensures) ∙ c .before .if1 .taken), omega arith, a .pre .2, a .pre .3, c .before .before .before .before .one-byte .ensures)
 
 next-requires : tie.Need-next-requires Inv-loop μ-loop
 next-requires c κs =
     let b = c .before .before .before .before in
-    let a = b .before .before .before .before .before .before in
+    let a = b .before .before .before .before .before .before .before in
     next-in _ _ (a .pre .0 .within) (ltb-true _ _ (sym (b .before .has-track .ensures) ∙ b .if1 .taken))
 
 loop-less : tie.Need-loop-less Inv-loop μ-loop
 loop-less c =
     let b = c .before .before .before .before .before in
-    let a = b .before .before .before .before .before .before in
+    let a = b .before .before .before .before .before .before .before in
     next-less (a .args .p) _ _ (ltb-true _ _ (sym (b .before .has-track .ensures) ∙ b .if1 .taken)) (c .next .ensures)
 
 loop-again : tie.Need-loop-again Inv-loop μ-loop
 loop-again c =
     let b = c .before .before .before .before .before in
-    let a = b .before .before .before .before .before .before in
+    let a = b .before .before .before .before .before .before .before in
     let on = ltb-true _ _ (sym (b .before .has-track .ensures) ∙ b .if1 .taken) in
     rw (c .next .ensures)
-    (remade-more _ _ _ _ _ _ _ _ (a .pre .2) (a .pre .3) (a .pre .0 .long) on (b .before .before .loop .inv) (c .before .before .before .format-at .ensures))
+    (remade-more _ _ _ _ _ _ _ _ (a .pre .2) (a .pre .3) (a .pre .0 .long) on (b .before .before .loop .inv) (c .before .before .before .format-track .ensures))
 
 same-length : tie.Need-same-length Inv-loop μ-loop
 same-length c = search needs
@@ -60,9 +63,10 @@ format-from-spec =
     (tie.spec
     Inv-loop
     μ-loop
+    one-byte-requires
     loop-holds
     has-track-requires
-    format-at-requires
+    format-track-requires
     next-requires
     loop-less
     loop-again

@@ -7,10 +7,10 @@ use Rattle.formatter.proofs.format.format_slots.Statement.{statement}
 use Rattle.formatter.proofs.format.format_slots.Tie as tie
 
 abbrev Inv-loop : tie.InvT-loop
-Inv-loop track₀ id map fill count k₀ track k = Walked id map fill track₀ track count k
+Inv-loop track₀ id map fill one count k₀ track k = Walked id map fill track₀ track count k
 
 abbrev μ-loop : tie.MeasureT-loop
-μ-loop track₀ id map fill count k₀ track k = count - k
+μ-loop track₀ id map fill one count k₀ track k = count - k
 
 loop-holds : tie.Need-loop-holds Inv-loop μ-loop
 loop-holds c = walked-none _ _ _ _ _
@@ -19,7 +19,7 @@ format-step-requires : tie.Need-format-step-requires Inv-loop μ-loop
 format-step-requires c κs =
     let a = c .before .before .before .before .before .before in
     let w = c .before .before .loop .inv in
-    (walked-length _ _ _ _ _ _ _ w (a .pre .1) (a .pre .0) ∙ a .pre .0, omega (arith, c .before .loop-test .taken, a .pre .1), a .pre .2)
+    (walked-length _ _ _ _ _ _ _ w (a .pre .1) (a .pre .0) ∙ a .pre .0, omega (arith, c .before .loop-test .taken, a .pre .1), a .pre .2, a .pre .3)
 
 add-k : tie.Need-add-k Inv-loop μ-loop
 add-k c = search needs

@@ -15,17 +15,17 @@ part-copy-bytes-end c = search needs
 copy-bytes-requires : tie.Need-copy-bytes-requires
 copy-bytes-requires c κs = search needs
 
-sub-copy-bytes-2 : tie.Need-sub-copy-bytes-2
-sub-copy-bytes-2 c = search needs
+sub-write-fill : tie.Need-sub-write-fill
+sub-write-fill c = search needs
 
-part-copy-bytes-start-2 : tie.Need-part-copy-bytes-start-2
-part-copy-bytes-start-2 c = search needs
+part-write-fill-start : tie.Need-part-write-fill-start
+part-write-fill-start c = search needs
 
-part-copy-bytes-end-2 : tie.Need-part-copy-bytes-end-2
-part-copy-bytes-end-2 c = search needs
+part-write-fill-end : tie.Need-part-write-fill-end
+part-write-fill-end c = search needs
 
-copy-bytes-requires-2 : tie.Need-copy-bytes-requires-2
-copy-bytes-requires-2 c κs = search needs
+write-fill-requires : tie.Need-write-fill-requires
+write-fill-requires c κs = search needs
 
 same-length : tie.Need-same-length
 same-length c = search needs
@@ -34,7 +34,7 @@ returns : tie.Need-returns
 returns c =
     let second = c .before .before in
     let first = second .before .before .before .before in
-    slot-written _ _ _ _ _ (first .before .before .before .before .before .pre) (first .copy-bytes .ensures) (second .copy-bytes2 .ensures)
+    slot-written _ _ _ _ _ (first .before .before .before .before .before .pre .0) (first .copy-bytes .ensures) (second .write-fill .ensures)
 
 pub write-slot-spec : {M : Type 1} → statement M
 write-slot-spec =
@@ -44,9 +44,9 @@ write-slot-spec =
     part-copy-bytes-start
     part-copy-bytes-end
     copy-bytes-requires
-    sub-copy-bytes-2
-    part-copy-bytes-start-2
-    part-copy-bytes-end-2
-    copy-bytes-requires-2
+    sub-write-fill
+    part-write-fill-start
+    part-write-fill-end
+    write-fill-requires
     same-length
     returns)
