@@ -27,7 +27,7 @@ fn with_sector(id: Id, s: u8) -> Id
     other
 }
 
-// A slot's data, the fill. One byte repeated is set, which takes less than a copy.
+// A slot's data, the fill. Where it is one byte repeated, which `one` says here and below, it is set: that takes less than a copy.
 fn write_fill(dst: &mut [u8], fill: &[u8], one: bool)
     requires { ⌜ (length (now dst) ≡ length (now fill)) × (one ≡ oneByte (now fill)) ⌝ }
     ensures { λ _. ⌜ now (dst .exit) ≡ now (fill .entry) ⌝ }
@@ -39,7 +39,7 @@ fn write_fill(dst: &mut [u8], fill: &[u8], one: bool)
     copy_bytes(dst, fill);
 }
 
-// A slot, whole: the bytes of its ID, then its data. Here and below `one` is whether the fill is one byte repeated.
+// A slot, whole: the bytes of its ID, then its data.
 fn write_slot(slot: &mut [u8], id: &[u8], fill: &[u8], one: bool)
     requires { ⌜ (length (now slot) ≡ length (now id) + length (now fill)) × (one ≡ oneByte (now fill)) ⌝ }
     ensures { λ _. ⌜ now (slot .exit) ≡ now (id .entry) ++ now (fill .entry) ⌝ }
@@ -52,7 +52,8 @@ fn write_slot(slot: &mut [u8], id: &[u8], fill: &[u8], one: bool)
 
 // A step of a format: slot k of the track, which is lent its own stretch of the image.
 fn format_step(track: &mut [u8], id: Id, map: &[u8], fill: &[u8], one: bool, k: usize)
-    requires { ⌜ (length (now track) ≡ length (now map) * (8 + length (now fill))) × (k < length (now map)) × (id .partner .0 < 65536) × (one ≡ oneByte (now fill)) ⌝ }
+    requires { ⌜ (length (now track) ≡ length (now map) * (8 + length (now fill))) × (k < length (now map)) × (id .partner .0 < 65536)
+        × (one ≡ oneByte (now fill)) ⌝ }
     ensures { λ _. ⌜ now (track .exit) ≡ stepped id (now (map .entry)) (now (fill .entry)) k (now (track .entry)) ⌝ }
 {
     let start = k * (8 + fill.len());
@@ -64,7 +65,8 @@ fn format_step(track: &mut [u8], id: Id, map: &[u8], fill: &[u8], one: bool, k: 
 
 // The first `count` steps, in slot order.
 fn format_slots(track: &mut [u8], id: Id, map: &[u8], fill: &[u8], one: bool, count: usize)
-    requires { ⌜ (length (now track) ≡ length (now map) * (8 + length (now fill))) × (count ≤ length (now map)) × (id .partner .0 < 65536) × (one ≡ oneByte (now fill)) ⌝ }
+    requires { ⌜ (length (now track) ≡ length (now map) * (8 + length (now fill))) × (count ≤ length (now map)) × (id .partner .0 < 65536)
+        × (one ≡ oneByte (now fill)) ⌝ }
     ensures { λ _. ⌜ now (track .exit) ≡ underWay id (now (map .entry)) (now (fill .entry)) count (now (track .entry)) ⌝ }
 {
     let mut k = 0;
@@ -75,7 +77,7 @@ fn format_slots(track: &mut [u8], id: Id, map: &[u8], fill: &[u8], one: bool, co
 }
 
 // Formats track t of an image.
-fn format_track(
+fn format_as(
     image: &mut [u8],
     p: Params,
     t: Track,
@@ -84,7 +86,8 @@ fn format_track(
     fill: &[u8],
     one: bool,
 )
-    requires { ⌜ Fits p (now image) × (t .0 < trackCount p) × (partnerOf state .0 < 65536) × (length (now map) ≡ p .sectors) × (length (now fill) ≡ p .size) × (one ≡ oneByte (now fill)) ⌝ }
+    requires { ⌜ Fits p (now image) × (t .0 < trackCount p) × (partnerOf state .0 < 65536) × (length (now map) ≡ p .sectors)
+        × (length (now fill) ≡ p .size) × (one ≡ oneByte (now fill)) ⌝ }
     ensures { λ _. ⌜ now (image .exit) ≡ withTrack p t (formatted p t state (now (map .entry)) (now (fill .entry))) (now (image .entry)) ⌝ }
 {
     let place = p.stretch(t);
@@ -99,7 +102,7 @@ pub fn format_at(image: &mut [u8], p: Params, t: Track, state: State, map: &[u8]
     requires { ⌜ Fits p (now image) × (t .0 < trackCount p) × (partnerOf state .0 < 65536) × (length (now map) ≡ p .sectors) × (length (now fill) ≡ p .size) ⌝ }
     ensures { λ _. ⌜ now (image .exit) ≡ withTrack p t (formatted p t state (now (map .entry)) (now (fill .entry))) (now (image .entry)) ⌝ }
 {
-    format_track(image, p, t, state, map, fill, one_byte(fill));
+    format_as(image, p, t, state, map, fill, one_byte(fill));
 }
 
 // Formats the tracks from `first` to the last as sound.
@@ -110,7 +113,7 @@ pub fn format_from(image: &mut [u8], p: Params, first: Track, map: &[u8], fill: 
     let one = one_byte(fill);
     let mut t = first;
     while p.has_track(t) {
-        format_track(image, p, t, State::Sound, map, fill, one);
+        format_as(image, p, t, State::Sound, map, fill, one);
         t = t.next();
     }
 }

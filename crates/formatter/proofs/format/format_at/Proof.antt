@@ -5,8 +5,8 @@ use Rattle.formatter.proofs.format.format_at.Tie as tie
 one-byte-requires : tie.Need-one-byte-requires
 one-byte-requires c κs = search needs
 
-format-track-requires : tie.Need-format-track-requires
-format-track-requires c κs = search needs
+format-as-requires : tie.Need-format-as-requires
+format-as-requires c κs = search needs
 
 same-length : tie.Need-same-length
 same-length c = search needs
@@ -19,6 +19,6 @@ format-at-spec =
     tie.close
     (tie.spec
     one-byte-requires
-    format-track-requires
+    format-as-requires
     same-length
     returns)

@@ -25,9 +25,9 @@ loop-holds c = remade-none _ _ _ _ _ (c .before .before .before .before .pre .1)
 has-track-requires : tie.Need-has-track-requires Inv-loop μ-loop
 has-track-requires c κs = c .before .before .before .before .before .pre .0 .within
 
-format-track-requires : tie.Need-format-track-requires Inv-loop μ-loop
+format-as-requires : tie.Need-format-as-requires Inv-loop μ-loop
 unfolding partnerOf
-format-track-requires c κs =
+format-as-requires c κs =
     let a = c .before .before .before .before .before .before .before .before in
     (record { within = a .pre .0 .within; long = omega arith }, ltb-true _ _ (sym (c .before .before .has-track .ensures) ∙ c .before .if1 .taken), omega arith, a .pre .2, a .pre .3, c .before .before .before .before .one-byte .ensures)
 
@@ -49,7 +49,7 @@ loop-again c =
     let a = b .before .before .before .before .before .before .before in
     let on = ltb-true _ _ (sym (b .before .has-track .ensures) ∙ b .if1 .taken) in
     rw (c .next .ensures)
-    (remade-more _ _ _ _ _ _ _ _ (a .pre .2) (a .pre .3) (a .pre .0 .long) on (b .before .before .loop .inv) (c .before .before .before .format-track .ensures))
+    (remade-more _ _ _ _ _ _ _ _ (a .pre .2) (a .pre .3) (a .pre .0 .long) on (b .before .before .loop .inv) (c .before .before .before .format-as .ensures))
 
 same-length : tie.Need-same-length Inv-loop μ-loop
 same-length c = search needs
@@ -66,7 +66,7 @@ format-from-spec =
     one-byte-requires
     loop-holds
     has-track-requires
-    format-track-requires
+    format-as-requires
     next-requires
     loop-less
     loop-again

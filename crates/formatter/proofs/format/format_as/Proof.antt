@@ -2,8 +2,8 @@ use native.Mathlib.Omega.{arith}
 use Rattle.track.specs.Id.{idFor}
 use Rattle.formatter.proofs.Steps.{stretch-whole, track-walked}
 use borrow.Author.Needs.{needs}
-use Rattle.formatter.proofs.format.format_track.Statement.{statement}
-use Rattle.formatter.proofs.format.format_track.Tie as tie
+use Rattle.formatter.proofs.format.format_as.Statement.{statement}
+use Rattle.formatter.proofs.format.format_as.Tie as tie
 
 stretch-requires : tie.Need-stretch-requires
 stretch-requires c κs = search needs
@@ -38,8 +38,8 @@ returns c =
     let a = made .before .before .before .before .before in
     track-walked _ _ _ _ _ (a .pre .3) (a .pre .4) _ _ (s .0) (s .1) (a .pre .0 .long) (a .pre .1) _ _ _ (made .id-for .ensures) (called .format-slots .ensures)
 
-pub format-track-spec : {M : Type 1} → statement M
-format-track-spec =
+pub format-as-spec : {M : Type 1} → statement M
+format-as-spec =
     tie.close
     (tie.spec
     stretch-requires
