@@ -42,7 +42,8 @@ fn pair_faults(
     away: bool,
     unfit: bool,
 ) -> Verdict
-    ensures { λ r. ⌜ r ≡ judged (on moved 0x1D a ∷ on taken 0x1C a ∷ on same 0x22 a ∷ on away 0x1D alternate ∷ on unfit 0x1F alternate ∷ []) ⌝ }
+    ensures { λ r. ⌜ r ≡ judged
+        (on moved 0x1D a ∷ on taken 0x1C a ∷ on same 0x22 a ∷ on away 0x1D alternate ∷ on unfit 0x1F alternate ∷ []) ⌝ }
 {
     if moved {
         return Verdict::Faulty(0x1D, a);

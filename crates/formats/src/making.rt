@@ -58,7 +58,8 @@ pub fn fill_of(b: Block, p: Params, buffer: &[u8]) -> [u8; 512]
 
 // Formats one track with the block's interleave.
 pub fn make_at(image: &mut [u8], b: Block, p: Params, t: Track, state: State, fill: &[u8])
-    requires { ⌜ Fits p (now image) × (t .0 < trackCount p) × (partnerOf state .0 < 65536) × (b .extra < p .sectors) × (length (now fill) ≡ p .size) ⌝ }
+    requires { ⌜ Fits p (now image) × (t .0 < trackCount p) × (partnerOf state .0 < 65536) × (b .extra < p .sectors)
+        × (length (now fill) ≡ p .size) ⌝ }
     ensures { λ _. ⌜ now (image .exit) ≡ madeAt b p t state (now (fill .entry)) (now (image .entry)) ⌝ }
 {
     let n = p.sectors;

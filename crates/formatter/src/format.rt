@@ -99,7 +99,8 @@ fn format_as(
 
 // The same, and looks at the fill first.
 pub fn format_at(image: &mut [u8], p: Params, t: Track, state: State, map: &[u8], fill: &[u8])
-    requires { ⌜ Fits p (now image) × (t .0 < trackCount p) × (partnerOf state .0 < 65536) × (length (now map) ≡ p .sectors) × (length (now fill) ≡ p .size) ⌝ }
+    requires { ⌜ Fits p (now image) × (t .0 < trackCount p) × (partnerOf state .0 < 65536) × (length (now map) ≡ p .sectors)
+        × (length (now fill) ≡ p .size) ⌝ }
     ensures { λ _. ⌜ now (image .exit) ≡ withTrack p t (formatted p t state (now (map .entry)) (now (fill .entry))) (now (image .entry)) ⌝ }
 {
     format_as(image, p, t, state, map, fill, one_byte(fill));

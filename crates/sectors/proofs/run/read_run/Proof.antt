@@ -8,10 +8,10 @@ use Rattle.sectors.proofs.run.read_run.Statement.{statement}
 use Rattle.sectors.proofs.run.read_run.Tie as tie
 
 abbrev Inv-loop : tie.InvT-loop
-Inv-loop track p s m places₀ size slots₀ looked₀ at₀ past q₀ places slots looked at q = Reading p m s track places₀ places slots looked at q
+Inv-loop track p s m places₀ size slots₀ looked₀ at₀ past sector₀ places slots looked at sector = Reading p m s track places₀ places slots looked at sector
 
 abbrev μ-loop : tie.MeasureT-loop
-μ-loop track p s m places₀ size slots₀ looked₀ at₀ past q₀ places slots looked at q = past - q
+μ-loop track p s m places₀ size slots₀ looked₀ at₀ past sector₀ places slots looked at sector = past - sector
 
 add-past : tie.Need-add-past Inv-loop μ-loop
 add-past c = search needs
@@ -46,7 +46,7 @@ room c = reading-room _ _ _ _ _ _ _ _ _ _ (c .before .loop .inv) (c .before .bef
 
 there : (c : tie.Else1 Inv-loop μ-loop)
     → getD (c .before .before .look-for .last .1 .1 .0)
-    (c .before .before .before .before .before .loop .q) 0
+    (c .before .before .before .before .before .loop .sector) 0
     < c .before .before .before .before .before .before .before .before .args .p .sectors
 there c =
     let in-loop = c .before .before .before .before in
@@ -85,8 +85,8 @@ move-bytes-requires c κs =
     let copied = data-long _ _ (a .pre .1) _ (there called) _ (c .before .before .slot-at .ensures) _ (c .slot-data .ensures) in
     simp (length-take, length-drop, copied) (omega (arith, room in-loop))
 
-add-q : tie.Need-add-q Inv-loop μ-loop
-add-q c = search needs
+add-sector : tie.Need-add-sector Inv-loop μ-loop
+add-sector c = search needs
 
 loop-less : tie.Need-loop-less Inv-loop μ-loop
 loop-less c = search needs
@@ -128,7 +128,7 @@ read-run-spec =
     part-move-bytes-end
     slot-data-requires
     move-bytes-requires
-    add-q
+    add-sector
     loop-less
     loop-again
     same-length-2

@@ -8,10 +8,10 @@ use Rattle.sectors.proofs.run.write_run.Statement.{statement}
 use Rattle.sectors.proofs.run.write_run.Tie as tie
 
 abbrev Inv-loop : tie.InvT-loop
-Inv-loop track₀ p s m given size slots₀ looked₀ at₀ past q₀ track slots looked at q = Writing p m s given track₀ track slots looked at q
+Inv-loop track₀ p s m given size slots₀ looked₀ at₀ past sector₀ track slots looked at sector = Writing p m s given track₀ track slots looked at sector
 
 abbrev μ-loop : tie.MeasureT-loop
-μ-loop track₀ p s m given size slots₀ looked₀ at₀ past q₀ track slots looked at q = past - q
+μ-loop track₀ p s m given size slots₀ looked₀ at₀ past sector₀ track slots looked at sector = past - sector
 
 add-past : tie.Need-add-past Inv-loop μ-loop
 add-past c = search needs
@@ -50,7 +50,7 @@ room c = writing-room _ _ _ _ _ _ _ _ _ _ (c .before .loop .inv) (c .before .bef
 
 there : (c : tie.Else1 Inv-loop μ-loop)
     → getD (c .before .before .look-for .last .1 .1 .0)
-    (c .before .before .before .before .before .before .loop .q) 0
+    (c .before .before .before .before .before .before .loop .sector) 0
     < c .before .before .before .before .before .before .before .before .before .args .p .sectors
 there c =
     let in-loop = c .before .before .before .before .before in
@@ -78,8 +78,8 @@ write-data-requires c κs =
     let a = in-loop .before .before .before .before in
     (a .pre .0, in-loop .before .loop .inv .len ∙ a .pre .1, there (c .before .before), simp (length-take, length-drop) (omega (arith, room in-loop)))
 
-add-q : tie.Need-add-q Inv-loop μ-loop
-add-q c = search needs
+add-sector : tie.Need-add-sector Inv-loop μ-loop
+add-sector c = search needs
 
 loop-less : tie.Need-loop-less Inv-loop μ-loop
 loop-less c = search needs
@@ -117,7 +117,7 @@ write-run-spec =
     part-write-data-start
     part-write-data-end
     write-data-requires
-    add-q
+    add-sector
     loop-less
     loop-again
     same-length-2
