@@ -71,7 +71,7 @@ pub struct Ran {
 // A command: any block, given data, data area and images. The buffer is lent, so that no call copies it.
 pub fn execute_on(
     drives: [Drive; 4],
-    buffer: &mut [u8],
+    buffer: &mut [u8; 512],
     block: &[u8],
     given: &[u8],
     area: &mut [u8],
@@ -80,7 +80,6 @@ pub fn execute_on(
     image2: &mut [u8],
     image3: &mut [u8],
 ) -> Ran
-    requires { ⌜ length (now buffer) ≡ 512 ⌝ }
     ensures { λ r. ⌜ resultNow (record { controller = record { buffer = now (buffer .exit); drives = r .drives }; answer = r .answer })
         (now (area .exit)) (imagesOf (now (image0 .exit)) (now (image1 .exit)) (now (image2 .exit)) (now (image3 .exit)))
         ≡ execute (record { buffer = now (buffer .entry); drives = drives }) (now (block .entry)) (now (given .entry)) (now (area .entry))

@@ -2,9 +2,6 @@ use borrow.Author.Needs.{needs}
 use Rattle.engine.proofs.run.execute.Statement.{statement}
 use Rattle.engine.proofs.run.execute.Tie as tie
 
-slice-aggregate-execute-on : tie.Need-slice-aggregate-execute-on
-slice-aggregate-execute-on c = search needs
-
 execute-on-requires : tie.Need-execute-on-requires
 execute-on-requires c κs = search needs
 
@@ -30,7 +27,6 @@ pub execute-spec : {M : Type 1} → statement M
 execute-spec =
     tie.close
     (tie.spec
-    slice-aggregate-execute-on
     execute-on-requires
     same-length
     same-length-2

@@ -22,12 +22,10 @@ drive-at-requires : tie.Need-drive-at-requires
 drive-at-requires c κs = omega (arith, formed c .drive)
 
 on-images-requires : tie.Need-on-images-requires
-on-images-requires c κs =
-    let d = c .before .before .before .before .before .before .before in
-    (formed d, d .before .before .before .before .before .before .before .before .before .before .pre)
+on-images-requires c κs = (formed (c .before .before .before .before .before .before .before), search needs)
 
 with-drive-requires : tie.Need-with-drive-requires
-with-drive-requires c κs = omega (arith, formed (c .before .before .before .before .before .before .before .before .before .before .before .before .before .before .before .before .before .before .before .before .before .before) .drive)
+with-drive-requires c κs = omega (arith, formed (c .before .before .before .before .before .before .before .before .before .before .before .before .before .before .before .before .before .before .before .before) .drive)
 
 same-length : tie.Need-same-length
 same-length c = search needs
@@ -44,12 +42,9 @@ same-length-4 c = search needs
 same-length-5 : tie.Need-same-length-5
 same-length-5 c = search needs
 
-same-length-6 : tie.Need-same-length-6
-same-length-6 c = search needs
-
 returns-2 : tie.Need-returns-2
 returns-2 c =
-    let o = c .before .before .before .before .before .before .before .before .before .before .before .before .before .before .before in
+    let o = c .before .before .before .before .before .before .before .before .before .before .before .before .before in
     let d = o .before .before .before .before .before .before .before .before in
     execute-six _ _ _ _ _ (d .before .if1 .left) _ (d .decode .ensures) _ (o .before .before .before .before .before .before .before .drive-at .ensures) _ (o .on-images .ensures) _ (c .with-drive .ensures)
 
@@ -68,5 +63,4 @@ execute-on-spec =
     same-length-3
     same-length-4
     same-length-5
-    same-length-6
     returns-2)
