@@ -1,7 +1,8 @@
 /* session [format] IMAGE0 IMAGE1 IMAGE2 IMAGE3: an example that FORMATS TWO DISKS, IMAGE0 and IMAGE2.
  *
- * It initializes and formats a hard disk in IMAGE0, writes a map, and reads it back after a Reset; then it does the same with
- * a floppy in IMAGE2, to which it copies the map. IMAGE1 and IMAGE3 are lent to the engine, and no command names them.
+ * It initializes and formats a hard disk in IMAGE0, writes a map, and reads it back after a Reset; then it formats a floppy in
+ * IMAGE2, carries the map there by Copy Blocks, and brings it back with a note behind it. IMAGE1 and IMAGE3 are lent to the engine,
+ * and no command names them.
  *
  * - Where IMAGE0 or IMAGE2 is missing or empty, it is made. Where IMAGE1 or IMAGE3 is, the drive is absent.
  * - A file that is not empty is refused, each of the four, and nothing is done. With the word 'format' first, files are taken
@@ -22,7 +23,7 @@
 #include <sys/stat.h>
 #include <unistd.h>
 
-enum { MAP = 256 };
+enum { MAP = 256, NOTE = 128, HARD_DISK = 0 << 5, FLOPPY = 2 << 5 };
 
 typedef struct {
     const char *name;
@@ -140,22 +141,43 @@ static void show(const char *what, lanthewg_answer a) {
     printf("%-14s number %u status %02X sectors %u bytes %u\n", what, a.number, a.status, a.sectors, (unsigned)a.bytes);
 }
 
-/* A command, which can change the image of the drive that it names and no other. */
-static lanthewg_answer call(const char *what, const uint8_t block[6], const uint8_t *given, size_t length) {
-    lanthewg_answer a = lanthewg_execute(&card, block, 6, given, length, area, sizeof area,
+/* A command. It can change the image of one drive and no other: of a Copy that is its destination, in byte 5 of its block. */
+static lanthewg_answer call(const char *what, const uint8_t *block, const uint8_t *given, size_t length) {
+    bool copy = block[0] == LANTHEWG_OPCODE_COPY;
+    size_t size = copy ? LANTHEWG_COPY_BLOCK_SIZE : LANTHEWG_BLOCK_SIZE;
+    lanthewg_answer a = lanthewg_execute(&card, block, size, given, length, area, sizeof area,
                                          disks[0].image, disks[0].length, disks[1].image, disks[1].length,
                                          disks[2].image, disks[2].length, disks[3].image, disks[3].length);
-    flush(&disks[block[1] >> 5 & 3]);
+    flush(&disks[block[copy ? 5 : 1] >> 5 & 3]);
     show(what, a);
     return a;
 }
 
+static void stop(const char *what) {
+    fprintf(stderr, "session: %s did not end well\n", what);
+    exit(1);
+}
+
 /* A command that must end well. */
 static void must(const char *what, const uint8_t block[6], const uint8_t *given, size_t length) {
-    if (!lanthewg_is_good(call(what, block, given, length))) {
-        fprintf(stderr, "session: %s did not end well\n", what);
-        exit(1);
-    }
+    if (!lanthewg_is_good(call(what, block, given, length))) stop(what);
+}
+
+/* What Request Sense says of a drive. */
+static void ask_sense(uint8_t drive) {
+    const uint8_t sense[6] = {LANTHEWG_OPCODE_REQUEST_SENSE, drive}, none[1] = {0};
+    must("Request Sense", sense, none, 0);
+    printf("%-14s %02X %02X %02X %02X\n", "sense", area[0], area[1], area[2], area[3]);
+}
+
+/* A Copy that must have written all of its source. With good status it has. With 23h it has too: the source did not fill the last
+ * sector, and zeros fill its rest. With any other code sectors are missing; and a refusal has done nothing, and left no code. */
+static void must_copy(const uint8_t block[10]) {
+    lanthewg_answer a = call("Copy Blocks", block, block, 0);
+    if (lanthewg_is_good(a)) return;
+    if (a.number != 0) stop("Copy Blocks");
+    ask_sense(block[1] & 0x60); /* of the source, whatever failed */
+    if (area[0] != LANTHEWG_SENSE_PARTLY_FILLED + LANTHEWG_SENSE_ADDRESS) stop("Copy Blocks");
 }
 
 /* Whether the map was handed over. */
@@ -167,10 +189,9 @@ static void compare(const uint8_t *map) {
 
 /* What drive 0 says before it is initialized. */
 static void ask(void) {
-    const uint8_t ready[6] = {LANTHEWG_OPCODE_TEST_READY}, sense[6] = {LANTHEWG_OPCODE_REQUEST_SENSE}, none[1] = {0};
+    const uint8_t ready[6] = {LANTHEWG_OPCODE_TEST_READY}, none[1] = {0};
     call("Test Ready", ready, none, 0);
-    must("Request Sense", sense, none, 0);
-    printf("%-14s %02X %02X %02X %02X\n", "sense", area[0], area[1], area[2], area[3]);
+    ask_sense(HARD_DISK);
 }
 
 /* The map as one sector of the hard disk, drive 0. */
@@ -187,20 +208,36 @@ static void keep(const uint8_t *map) {
     compare(map);
 }
 
-/* The map that was read, as two sectors of the floppy, drive 2, which has two cylinders and two heads. */
+/* The map to the floppy, drive 2, which has two cylinders and two heads: one sector of the hard disk fills two of the floppy. */
 static void carry(const uint8_t *map) {
-    enum { DRIVE = 2 << 5 };
-    const uint8_t initialize[6] = {LANTHEWG_OPCODE_INITIALIZE, DRIVE}, four_tracks[10] = {0, 2, 2, 1};
-    const uint8_t format[6] = {LANTHEWG_OPCODE_FORMAT_DRIVE, DRIVE, 0, 0, 1, 0};
-    const uint8_t write[6] = {LANTHEWG_OPCODE_WRITE, DRIVE, 0, 0, 2, 0}, read[6] = {LANTHEWG_OPCODE_READ, DRIVE, 0, 0, 2, 0};
-    uint8_t carried[MAP];
-    memcpy(carried, area, sizeof carried);
+    const uint8_t initialize[6] = {LANTHEWG_OPCODE_INITIALIZE, FLOPPY}, four_tracks[10] = {0, 2, 2, 1};
+    const uint8_t format[6] = {LANTHEWG_OPCODE_FORMAT_DRIVE, FLOPPY, 0, 0, 1, 0};
+    const uint8_t copy[10] = {LANTHEWG_OPCODE_COPY, HARD_DISK, 0, 31, 1, FLOPPY, 0, 0, 0, 0};
+    const uint8_t read[6] = {LANTHEWG_OPCODE_READ, FLOPPY, 0, 0, 2, 0};
     must("Initialize", initialize, four_tracks, sizeof four_tracks);
     must("Format Drive", format, map, 0);
-    must("Write", write, carried, sizeof carried);
+    must_copy(copy);
     memset(area, 0, sizeof area);
     must("Read", read, map, 0);
     compare(map);
+}
+
+/* The map and a note of one floppy sector behind it, from the floppy to two other sectors of the hard disk. Three sectors of the
+ * floppy fill one and a half: 23h, and zeros behind the note. */
+static void bring_back(const uint8_t *map) {
+    const uint8_t write[6] = {LANTHEWG_OPCODE_WRITE, FLOPPY, 0, 2, 1, 0};
+    const uint8_t copy[10] = {LANTHEWG_OPCODE_COPY, FLOPPY, 0, 0, 3, HARD_DISK, 0, 32, 0, 0};
+    const uint8_t read[6] = {LANTHEWG_OPCODE_READ, HARD_DISK, 0, 32, 2, 0};
+    uint8_t note[MAP] = {0};
+    memset(note, 'Z', NOTE);
+    must("Write", write, note, NOTE);
+    must_copy(copy);
+    memset(area, 0xFF, sizeof area);
+    must("Read", read, map, 0);
+    compare(map);
+    bool same = memcmp(area + MAP, note, MAP) == 0;
+    printf("%-14s %s\n", "note", same ? "as written, zeros behind it" : "DIFFERENT");
+    if (!same) exit(1);
 }
 
 int main(int count, char **words) {
@@ -220,5 +257,6 @@ int main(int count, char **words) {
     ask();
     keep(map);
     carry(map);
+    bring_back(map);
     return 0;
 }

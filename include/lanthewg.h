@@ -18,7 +18,7 @@
 #include <stddef.h>
 #include <stdint.h>
 
-#define LANTHEWG_VERSION "0.5.0"
+#define LANTHEWG_VERSION "0.6.0"
 
 /* An answer that nobody looks at is a warning, where the compiler can say so. */
 #if defined(__GNUC__)
@@ -31,7 +31,7 @@
 extern "C" {
 #endif
 
-/* Byte 0 of a block. Byte 1 has 32 x drive. */
+/* Byte 0 of a block. Byte 1 has 32 x drive. A block has LANTHEWG_BLOCK_SIZE bytes, a Copy's LANTHEWG_COPY_BLOCK_SIZE. */
 enum {
     LANTHEWG_OPCODE_TEST_READY = 0x00,
     LANTHEWG_OPCODE_RECALIBRATE = 0x01,
@@ -46,17 +46,33 @@ enum {
     LANTHEWG_OPCODE_ASSIGN_ALTERNATE = 0x0E,
     LANTHEWG_OPCODE_WRITE_BUFFER = 0x0F,
     LANTHEWG_OPCODE_READ_BUFFER = 0x10,
-    LANTHEWG_OPCODE_INITIALIZE = 0x11
+    LANTHEWG_OPCODE_INITIALIZE = 0x11,
+    LANTHEWG_OPCODE_COPY = 0x20 /* see below */
 };
+
+/* Copy Blocks, the one command of two drives. Its block: 0 opcode; 1-3 source drive and address, as in Read; 4 count of SOURCE
+ * sectors, 0 is 256; 5-7 destination drive and address, in the same form; 8 not looked at; 9 control. It takes no data and hands
+ * none over. What differs from every other command:
+ *
+ * - The block has ten bytes. With six, or any other number, it is refused, LANTHEWG_REFUSED_BLOCK: nothing was copied, and the
+ *   status is 0.
+ * - Only the image of the DESTINATION changes, drive block[5] >> 5 & 3. That is the one to flush, after a failure too.
+ * - Status and sense are the SOURCE drive's. In the sense, byte 1 names the drive that failed, which may be the other one. The
+ *   destination drive's sense stays.
+ * - sectors counts DESTINATION sectors, which may be larger or smaller than the source's.
+ * - As with a Write, a Copy that fails midway leaves the sectors that it counts; they are not taken back.
+ * - LANTHEWG_SENSE_PARTLY_FILLED has the error bit in the status, and lanthewg_is_good says no, though every byte of the source was
+ *   written: the source did not fill the last sector, and zeros fill its rest. */
 
 /* The numbers of a refusal, in which status, message and counts are 0 and nothing is changed. */
 enum {
-    LANTHEWG_REFUSED_BLOCK = 1, /* the block is not six bytes */
+    LANTHEWG_REFUSED_BLOCK = 1, /* the block is not six bytes, where it begins with LANTHEWG_OPCODE_COPY not ten */
     LANTHEWG_REFUSED_GIVEN = 2, /* less data is given than the command takes */
     LANTHEWG_REFUSED_AREA = 3   /* the data area is shorter than what the command hands over */
 };
 
-/* In the status: the command was taken and failed, and the drive's sense has the code. */
+/* In the status: the command was taken and failed, and the drive's sense has the code. (With LANTHEWG_SENSE_PARTLY_FILLED all was
+ * written.) */
 enum { LANTHEWG_STATUS_ERROR = 0x02 };
 
 /* The codes of a drive's first sense byte. With LANTHEWG_SENSE_ADDRESS added, an address is in the other three. */
@@ -77,19 +93,21 @@ enum {
     LANTHEWG_SENSE_UNFIT_ALTERNATE = 0x1F, /* Assign Alternate: the alternate is moved or bad */
     LANTHEWG_SENSE_UNKNOWN_COMMAND = 0x20,
     LANTHEWG_SENSE_PAST_END = 0x21,        /* an address past the last track */
-    LANTHEWG_SENSE_NOT_VALID = 0x22,       /* a field of the block, an interleave, a configuration */
+    LANTHEWG_SENSE_NOT_VALID = 0x22,       /* a field of the block, an interleave, a configuration, a Copy onto its own source */
+    LANTHEWG_SENSE_PARTLY_FILLED = 0x23,   /* Copy: all was written; zeros complete the last sector, whose address is given */
     LANTHEWG_SENSE_ADDRESS = 0x80
 };
 
 /* In bytes. A transfer moves up to 256 sectors of up to 512, so that no command hands over or takes more than LARGEST_AREA. */
 enum {
     LANTHEWG_BLOCK_SIZE = 6,
-    LANTHEWG_SENSE_SIZE = 4,      /* what Request Sense hands over */
-    LANTHEWG_CONFIG_SIZE = 10,    /* what Initialize takes */
-    LANTHEWG_ALTERNATE_SIZE = 3,  /* what Assign Alternate takes */
-    LANTHEWG_BUFFER_SIZE = 512,   /* what Write Buffer takes and Read Buffer hands over */
+    LANTHEWG_COPY_BLOCK_SIZE = 10, /* of a block that begins with LANTHEWG_OPCODE_COPY, and of no other */
+    LANTHEWG_SENSE_SIZE = 4,       /* what Request Sense hands over */
+    LANTHEWG_CONFIG_SIZE = 10,     /* what Initialize takes */
+    LANTHEWG_ALTERNATE_SIZE = 3,   /* what Assign Alternate takes */
+    LANTHEWG_BUFFER_SIZE = 512,    /* what Write Buffer takes and Read Buffer hands over */
     LANTHEWG_LARGEST_AREA = 131072,
-    LANTHEWG_LABEL_SIZE = 16,     /* at the front of an image; a shorter image is an absent drive */
+    LANTHEWG_LABEL_SIZE = 16,      /* at the front of an image; a shorter image is an absent drive */
     LANTHEWG_LARGEST_HARD_DISK = 63365136,
     LANTHEWG_LARGEST_FLOPPY = 1109776
 };
@@ -107,17 +125,18 @@ typedef struct {
     lanthewg_drive drives[4];
 } lanthewg_controller;
 
-/* Number 0: the command was taken, and status has 2 + 32 x drive after a failure, 32 x drive otherwise. Numbers 1 to 3 refuse
- * it (LANTHEWG_REFUSED_BLOCK and so on): then nothing is changed, and status is 0 too. */
+/* Number 0: the command was taken, and status has 2 + 32 x drive after a failure, 32 x drive otherwise (a Copy's source drive).
+ * Numbers 1 to 3 refuse it (LANTHEWG_REFUSED_BLOCK and so on): then nothing is changed, and status is 0 too. */
 typedef struct {
     uint8_t number;
     uint8_t status;
     uint8_t message;  /* always 0: the byte that a SASI controller sends after the status */
-    uint16_t sectors; /* done */
+    uint16_t sectors; /* done; by a Copy those of the destination */
     uint32_t bytes;   /* handed over, at the front of the data area */
 } lanthewg_answer;
 
-/* Whether the command was taken and ended well: number 0, and status without the error bit, whatever drive it names. */
+/* Whether the command was taken and ended well: number 0, and status without the error bit, whatever drive it names. It says no of
+ * a Copy that ended with LANTHEWG_SENSE_PARTLY_FILLED. */
 static inline bool lanthewg_is_good(lanthewg_answer answer) {
     return answer.number == 0 && (answer.status & LANTHEWG_STATUS_ERROR) == 0;
 }

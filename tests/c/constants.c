@@ -48,17 +48,19 @@ static void configure(const uint8_t config[LANTHEWG_CONFIG_SIZE]) {
     good(LANTHEWG_OPCODE_INITIALIZE, 0, 0);
 }
 
-/* An absent drive's codes: 20h exactly for opcodes that the header does not name. */
+/* An absent drive's codes: 20h exactly for opcodes that the header does not name. A block of the header's size is not refused. */
 static void opcodes(void) {
     static const uint8_t named[] = {
         LANTHEWG_OPCODE_TEST_READY, LANTHEWG_OPCODE_RECALIBRATE, LANTHEWG_OPCODE_REQUEST_SENSE, LANTHEWG_OPCODE_FORMAT_DRIVE,
         LANTHEWG_OPCODE_CHECK_TRACK, LANTHEWG_OPCODE_FORMAT_TRACK, LANTHEWG_OPCODE_FORMAT_BAD_TRACK, LANTHEWG_OPCODE_READ,
         LANTHEWG_OPCODE_WRITE, LANTHEWG_OPCODE_SEEK, LANTHEWG_OPCODE_ASSIGN_ALTERNATE, LANTHEWG_OPCODE_WRITE_BUFFER,
-        LANTHEWG_OPCODE_READ_BUFFER, LANTHEWG_OPCODE_INITIALIZE};
+        LANTHEWG_OPCODE_READ_BUFFER, LANTHEWG_OPCODE_INITIALIZE, LANTHEWG_OPCODE_COPY};
     for (unsigned opcode = 0; opcode < 256; opcode++) {
-        const uint8_t block[LANTHEWG_BLOCK_SIZE] = {(uint8_t)opcode};
-        on(none, 0, block, sizeof block, sizeof given, sizeof area);
+        const uint8_t block[LANTHEWG_COPY_BLOCK_SIZE] = {(uint8_t)opcode};
+        size_t size = opcode == LANTHEWG_OPCODE_COPY ? LANTHEWG_COPY_BLOCK_SIZE : LANTHEWG_BLOCK_SIZE;
+        lanthewg_answer a = on(none, 0, block, size, sizeof given, sizeof area);
         unsigned code = card.drives[0].sense[0];
+        expect(a.number == 0, "the size of a block", opcode);
         expect((code == LANTHEWG_SENSE_UNKNOWN_COMMAND) == !memchr(named, (int)opcode, sizeof named), "an opcode", opcode);
         lanthewg_fresh(&card, none, 0, none, 0, none, 0, none, 0);
     }
@@ -138,7 +140,7 @@ static void label_by_hand(void) {
 }
 
 /* Length and one less: with the first the command is not refused, with the second it is, with this number. */
-static void takes(const uint8_t block[6], size_t length, size_t size, unsigned number) {
+static void takes(const uint8_t *block, size_t length, size_t size, unsigned number) {
     for (size_t less = 0; less < 2; less++) {
         size_t block_size = number == LANTHEWG_REFUSED_BLOCK ? size - less : LANTHEWG_BLOCK_SIZE;
         size_t given_size = number == LANTHEWG_REFUSED_GIVEN ? size - less : sizeof given;
@@ -154,6 +156,7 @@ static void sizes(void) {
     const uint8_t sense[6] = {LANTHEWG_OPCODE_REQUEST_SENSE}, put[6] = {LANTHEWG_OPCODE_WRITE_BUFFER}, get[6] = {LANTHEWG_OPCODE_READ_BUFFER};
     const uint8_t initialize[6] = {LANTHEWG_OPCODE_INITIALIZE}, assign[6] = {LANTHEWG_OPCODE_ASSIGN_ALTERNATE, 0, 0, 0, 1, 0};
     static const uint8_t three_tracks[LANTHEWG_CONFIG_SIZE] = {0, 3, 1, 0, 1, 0, 0, 0, 0, 11};
+    const uint8_t copy[LANTHEWG_COPY_BLOCK_SIZE] = {LANTHEWG_OPCODE_COPY, 0, 0, 0, 2, 0, 0, 2, 0, 0};
     takes(sense, LENGTH, LANTHEWG_BLOCK_SIZE, LANTHEWG_REFUSED_BLOCK);
     takes(sense, LENGTH, LANTHEWG_SENSE_SIZE, LANTHEWG_REFUSED_AREA);
     takes(put, LENGTH, LANTHEWG_BUFFER_SIZE, LANTHEWG_REFUSED_GIVEN);
@@ -161,6 +164,9 @@ static void sizes(void) {
     memcpy(given, three_tracks, sizeof three_tracks);
     takes(initialize, LENGTH, LANTHEWG_CONFIG_SIZE, LANTHEWG_REFUSED_GIVEN);
     good(LANTHEWG_OPCODE_FORMAT_DRIVE, 0, 1);
+    takes(copy, LENGTH, LANTHEWG_COPY_BLOCK_SIZE, LANTHEWG_REFUSED_BLOCK);
+    expect(on(disk, LENGTH, copy, LANTHEWG_BLOCK_SIZE, 0, 0).number == LANTHEWG_REFUSED_BLOCK, "a Copy of six bytes", 0);
+    expect(on(disk, LENGTH, sense, LANTHEWG_COPY_BLOCK_SIZE, 0, sizeof area).number == LANTHEWG_REFUSED_BLOCK, "another of ten", 0);
     memcpy(given, "\0\0\100", LANTHEWG_ALTERNATE_SIZE);
     takes(assign, LENGTH, LANTHEWG_ALTERNATE_SIZE, LANTHEWG_REFUSED_GIVEN);
 }
@@ -189,6 +195,69 @@ static void largest(uint8_t drive, const uint8_t config[LANTHEWG_CONFIG_SIZE], s
     free(image);
 }
 
+/* A Copy between drives 0 and 2, which are two images. */
+static lanthewg_answer between(uint8_t *hard, size_t hard_length, uint8_t *floppy, size_t floppy_length, const uint8_t *block) {
+    return lanthewg_execute(&card, block, LANTHEWG_COPY_BLOCK_SIZE, none, 0, area, 0, hard, hard_length, none, 0,
+                            floppy, floppy_length, none, 0);
+}
+
+/* A disk of one track, with this sector size, as drive 0 or 2. */
+static void one_track(uint8_t drive, uint8_t *image, size_t length, uint8_t size) {
+    const uint8_t bits = (uint8_t)(drive << 5), config[LANTHEWG_CONFIG_SIZE] = {0, 1, 1, drive == 2, size};
+    const uint8_t initialize[6] = {LANTHEWG_OPCODE_INITIALIZE, bits}, format[6] = {LANTHEWG_OPCODE_FORMAT_DRIVE, bits, 0, 0, 1};
+    memcpy(given, config, sizeof config);
+    expect(lanthewg_is_good(on(image, length, initialize, 6, sizeof config, 0)), "a disk of one track", drive);
+    expect(lanthewg_is_good(on(image, length, format, 6, 0, 0)), "a disk of one track", drive);
+}
+
+/* 23h, from 128 to 256 and to 512 bytes: not good, and all is written. It arises only where the last sector is not full. */
+static void partly_filled(uint8_t size) {
+    static uint8_t hard[8856], floppy[2192];
+    size_t sector = (size_t)128 << size, slot = 8 + sector;
+    memset(hard, 0, sizeof hard);
+    memset(floppy, 0, sizeof floppy);
+    one_track(0, hard, sizeof hard, size);
+    one_track(2, floppy, sizeof floppy, 0);
+    for (uint8_t count = 1; count <= 8; count++) {
+        size_t full = count * (size_t)128 / sector, rest = count * (size_t)128 % sector, done = full + (rest != 0);
+        const uint8_t block[] = {LANTHEWG_OPCODE_COPY, 64, 0, 1, count, 0, 0, 2, 0xEE, 0x80};
+        const uint8_t sense[LANTHEWG_SENSE_SIZE] = {LANTHEWG_SENSE_PARTLY_FILLED + LANTHEWG_SENSE_ADDRESS, 0, 0, (uint8_t)(2 + full)};
+        const uint8_t *last = hard + LANTHEWG_LABEL_SIZE + (2 + full) * slot + 8;
+        lanthewg_answer a = between(hard, sizeof hard, floppy, sizeof floppy, block);
+        expect(a.number == 0 && a.status == (rest ? 64 + LANTHEWG_STATUS_ERROR : 64), "a Copy's status", count);
+        expect(lanthewg_is_good(a) == (rest == 0), "23h is not good", count);
+        expect(a.sectors == done && a.bytes == 0, "a Copy counts sectors of the destination", count);
+        if (rest) expect(memcmp(card.drives[2].sense, sense, sizeof sense) == 0, "23h", count);
+        else expect(card.drives[2].sense[0] == LANTHEWG_SENSE_NONE, "no code", count);
+        expect(card.drives[0].sense[0] == LANTHEWG_SENSE_NONE, "the destination's sense", count);
+        if (rest) expect(last[rest - 1] == 0xE5 && last[rest] == 0 && last[sector - 1] == 0, "the last sector, with zeros", count);
+    }
+}
+
+/* The largest copy: 256 sectors of 512 bytes are 1,024 of 128. And a Copy onto its own source. */
+static void largest_copy(void) {
+    static const uint8_t hard_config[LANTHEWG_CONFIG_SIZE] = {0, 16, 1, 0, 2}, floppy_config[LANTHEWG_CONFIG_SIZE] = {0, 64, 1, 1};
+    enum { HARD = 16 + 16 * 17 * 520, FLOPPY = 16 + 64 * 16 * 136 };
+    const uint8_t initialize[] = {LANTHEWG_OPCODE_INITIALIZE, 0, 0, 0, 0, 0, LANTHEWG_OPCODE_INITIALIZE, 64, 0, 0, 0, 0};
+    const uint8_t format[] = {LANTHEWG_OPCODE_FORMAT_DRIVE, 0, 0, 0, 1, 0, LANTHEWG_OPCODE_FORMAT_DRIVE, 64, 0, 0, 1, 0};
+    uint8_t *hard = calloc(HARD, 1), *floppy = calloc(FLOPPY, 1);
+    for (int i = 0; i < 2; i++) {
+        memcpy(given, i ? floppy_config : hard_config, LANTHEWG_CONFIG_SIZE);
+        on(i ? floppy : hard, i ? FLOPPY : HARD, initialize + 6 * i, 6, LANTHEWG_CONFIG_SIZE, 0);
+        expect(lanthewg_is_good(on(i ? floppy : hard, i ? FLOPPY : HARD, format + 6 * i, 6, 0, 0)), "disks for the largest copy", 0);
+    }
+    lanthewg_answer a = between(hard, HARD, floppy, FLOPPY, (const uint8_t[]){LANTHEWG_OPCODE_COPY, 0, 0, 0, 0, 64, 0, 0, 0, 0});
+    expect(lanthewg_is_good(a) && a.sectors == 1024 && floppy[FLOPPY - 1] == 0x6C, "256 sectors copied to 1,024", a.sectors & 0xFF);
+    a = between(hard, HARD, floppy, FLOPPY, (const uint8_t[]){LANTHEWG_OPCODE_COPY, 0, 0, 0, 0, 64, 0, 1, 0, 0});
+    expect(!lanthewg_is_good(a) && a.sectors == 0, "a copy past the end", 0);
+    expect(card.drives[0].sense[0] == LANTHEWG_SENSE_PAST_END + LANTHEWG_SENSE_ADDRESS, "a copy past the end", 0);
+    a = between(hard, HARD, floppy, FLOPPY, (const uint8_t[]){LANTHEWG_OPCODE_COPY, 0, 0, 0, 2, 0, 0, 1, 0, 0});
+    expect(!lanthewg_is_good(a) && a.sectors == 0, "a copy onto its own source", 0);
+    expect(card.drives[0].sense[0] == LANTHEWG_SENSE_NOT_VALID, "a copy onto its own source", 0);
+    free(hard);
+    free(floppy);
+}
+
 /* An image that has a label has a drive. */
 static void labels(void) {
     const uint8_t ready[6] = {LANTHEWG_OPCODE_TEST_READY};
@@ -215,6 +284,9 @@ int main(void) {
     memset(disk, 0, sizeof disk);
     sizes();
     labels();
+    partly_filled(1);
+    partly_filled(2);
+    largest_copy();
     largest(0, hard_disk, LANTHEWG_LARGEST_HARD_DISK, 512);
     largest(2, floppy, LANTHEWG_LARGEST_FLOPPY, 128);
     expect(LANTHEWG_LARGEST_AREA == 256 * 512, "the largest area", 0);

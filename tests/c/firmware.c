@@ -49,11 +49,11 @@ static lanthewg_answer execute(const uint8_t *block, size_t size, size_t given_s
                             image(2), LENGTH, image(3), LENGTH);
 }
 
-/* A command of drive 1 or 2, which ends so, and changes something of what it may and nothing else. */
-static void command(const char *name, const uint8_t block[6], int good, may what, int first, int second) {
-    int own = block[1] >> 5;
+/* A command of drive 1 or 2, a Copy to one of them, which ends so, and changes something of what it may there and nothing else. */
+static void command(const char *name, const uint8_t *block, int good, may what, int first, int second) {
+    int copy = block[0] == LANTHEWG_OPCODE_COPY, own = block[copy ? 5 : 1] >> 5;
     keep();
-    lanthewg_answer a = execute(block, 6, 4 * D, 4 * D);
+    lanthewg_answer a = execute(block, copy ? LANTHEWG_COPY_BLOCK_SIZE : LANTHEWG_BLOCK_SIZE, 4 * D, 4 * D);
     size_t changed = 0, wrong = 0;
     for (size_t at = 0; at < LENGTH; at++) {
         if (image(own)[at] != before[own][at]) { changed++; wrong += !allowed(own, what, first, second, at); }
@@ -146,12 +146,30 @@ static void floppies(void) {
     command("Read of a floppy", (uint8_t[]){0x08, 64, 0, 0, 8, 0}, 1, NOTHING, 0, 0);
 }
 
+/* Between the two, and within one. Of the hard disk track 1 is moved to track 2; of the floppy track 2 is bad. */
+static void copies(void) {
+    static const uint8_t front[3] = {7, 8, 9};
+    data(front, sizeof front);
+    command("Write before a Copy", (uint8_t[]){0x0A, 32, 0, 3, 2, 0}, 1, DATA, 0, 0);
+    command("Copy to a floppy", (uint8_t[]){0x20, 32, 0, 3, 2, 64, 0, 14, 0, 0}, 1, DATA, 0, 1);
+    command("Copy to a floppy that fails", (uint8_t[]){0x20, 32, 0, 3, 2, 64, 0, 30, 0, 0}, 0, DATA, 1, 1);
+    command("Copy to a bad track", (uint8_t[]){0x20, 32, 0, 3, 2, 64, 0, 32, 0, 0}, 0, NOTHING, 0, 0);
+    command("Copy to a moved track, with zeros behind", (uint8_t[]){0x20, 64, 0, 0, 3, 32, 0, 33, 0, 0}, 0, DATA, 2, 2);
+    command("Copy to a taken track", (uint8_t[]){0x20, 64, 0, 0, 3, 32, 0, 64, 0, 0}, 0, NOTHING, 0, 0);
+    command("Copy from a taken track", (uint8_t[]){0x20, 32, 0, 64, 1, 64, 0, 0, 0, 0}, 0, NOTHING, 0, 0);
+    command("Copy within a drive", (uint8_t[]){0x20, 32, 0, 3, 2, 32, 0, 20, 0, 0}, 1, DATA, 0, 0);
+    command("Copy onto its own source", (uint8_t[]){0x20, 32, 0, 3, 2, 32, 0, 4, 0, 0}, 0, NOTHING, 0, 0);
+    command("Copy past the end", (uint8_t[]){0x20, 32, 0, 3, 2, 32, 0, 95, 0, 0}, 0, NOTHING, 0, 0);
+}
+
 static void refusals(void) {
     static const uint8_t taking[] = {0x0A, 0x0E, 0x0F, 0x11}, handing[] = {0x03, 0x08, 0x10};
     for (unsigned opcode = 0; opcode < 256; opcode++) refused(1, (uint8_t[]){(uint8_t)opcode, 32, 0, 0, 1}, 5, 4 * D, 4 * D);
     for (size_t i = 0; i < sizeof taking; i++) refused(2, (uint8_t[]){taking[i], 32, 0, 0, 1, 0}, 6, 2, 4 * D);
     for (size_t i = 0; i < sizeof handing; i++) refused(3, (uint8_t[]){handing[i], 32, 0, 0, 1, 0}, 6, 4 * D, 3);
     refused(2, (uint8_t[]){0x0A, 64, 0, 0, 1, 0}, 6, 127, 4 * D);
+    for (size_t size = 0; size <= 12; size++)
+        if (size != LANTHEWG_COPY_BLOCK_SIZE) refused(1, (uint8_t[12]){0x20, 32, 0, 3, 2, 64, 0, 0, 0, 0}, size, 4 * D, 4 * D);
 }
 
 /* Another floppy, of one cylinder, is put in drive 2. Before a Reset the former one's three are in force, and a format labels it so. */
@@ -190,6 +208,7 @@ int main(void) {
     transfers();
     others();
     floppies();
+    copies();
     refusals();
     own_sense();
     expect(((uintptr_t)card() & 1) && ((uintptr_t)image(1) & 1) && ((uintptr_t)image(2) & 1), "the addresses are not odd");

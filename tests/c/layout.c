@@ -111,8 +111,14 @@ static void drives(void) {
 
 static void refusals(void) {
     const uint8_t block[6] = {0x10};
+    const uint8_t copy[10] = {0x20, 32, 0, 0, 1, 96, 0, 0, 0, 0};
     lanthewg_answer a = lent(block, 5, given, 0, LENGTH, LENGTH);
     expect(a.number == 1 && a.status == 0, "number 1");
+    a = lent(copy, 6, given, 0, LENGTH, LENGTH);
+    expect(a.number == 1 && a.status == 0, "number 1 of a Copy with six bytes");
+    /* A sector of 512 bytes of drive 1, which fills four of drive 3. */
+    a = lent(copy, sizeof copy, given, 0, LENGTH, LENGTH);
+    expect(a.number == 0 && a.status == 32 && a.message == 0 && a.sectors == 4 && a.bytes == 0, "a Copy's answer");
 }
 
 int main(void) {

@@ -12,13 +12,14 @@ enum { STACK = 65536, PAINT = 0xA5, LENGTH = 25360, HARD = 0, FLOPPY = 2 };
 static uint8_t stack[STACK] __attribute__((aligned(16))), disk[LENGTH], floppy[LENGTH], none[1], area[1024], given[1024];
 static lanthewg_controller card;
 static ucontext_t here, there;
-static uint8_t block[LANTHEWG_BLOCK_SIZE];
+static uint8_t block[LANTHEWG_COPY_BLOCK_SIZE];
+static size_t block_size;
 static uint8_t *frame;
 static lanthewg_answer answer;
 
 static void execute(void) {
     frame = __builtin_frame_address(0);
-    answer = lanthewg_execute(&card, block, sizeof block, given, sizeof given, area, sizeof area,
+    answer = lanthewg_execute(&card, block, block_size, given, sizeof given, area, sizeof area,
                               disk, sizeof disk, none, 0, floppy, sizeof floppy, none, 0);
 }
 
@@ -41,6 +42,7 @@ static long painted(void (*function)(void)) {
     return (long)(frame - stack) - low;
 }
 
+/* With each its data; with a Copy the bytes of its destination. */
 static const struct { uint8_t opcode, drive, address, extra, control, good, data[10]; } commands[] = {
     {LANTHEWG_OPCODE_TEST_READY, HARD, 0, 0, 0, 0, {0}},
     {LANTHEWG_OPCODE_INITIALIZE, HARD, 0, 0, 0, 1, {0, 3, 1, 0, 1, 0, 0, 0, 0, 11}},
@@ -63,14 +65,23 @@ static const struct { uint8_t opcode, drive, address, extra, control, good, data
     {LANTHEWG_OPCODE_FORMAT_DRIVE, FLOPPY, 0, 1, 0, 1, {0}},
     {LANTHEWG_OPCODE_WRITE, FLOPPY, 15, 8, 0, 1, {9}},
     {LANTHEWG_OPCODE_READ, FLOPPY, 15, 8, 0, 1, {0}},
+    {LANTHEWG_OPCODE_COPY, HARD, 30, 4, 0, 1, {FLOPPY << 5, 0, 20}},
+    {LANTHEWG_OPCODE_COPY, FLOPPY, 15, 3, 0, 0, {HARD << 5, 0, 31}},
+    {LANTHEWG_OPCODE_COPY, HARD, 0, 2, 0x80, 1, {HARD << 5, 0, 33}},
+    {LANTHEWG_OPCODE_COPY, HARD, 63, 2, 0, 0, {FLOPPY << 5, 0, 0}},
+    {LANTHEWG_OPCODE_COPY, HARD, 0, 2, 0, 0, {HARD << 5, 0, 1}},
 };
 
 int main(void) {
     long most = 0, depth;
     lanthewg_fresh(&card, disk, sizeof disk, none, 0, floppy, sizeof floppy, none, 0);
     for (size_t i = 0; i < sizeof commands / sizeof *commands; i++) {
-        const uint8_t now[] = {commands[i].opcode, (uint8_t)(commands[i].drive << 5), 0, commands[i].address, commands[i].extra, commands[i].control};
+        const uint8_t *to = commands[i].data, bits = (uint8_t)(commands[i].drive << 5), control = commands[i].control;
+        int copy = commands[i].opcode == LANTHEWG_OPCODE_COPY;
+        const uint8_t now[] = {commands[i].opcode, bits, 0, commands[i].address, commands[i].extra,
+                               copy ? to[0] : control, to[1], to[2], 0, control};
         memcpy(block, now, sizeof block);
+        block_size = copy ? LANTHEWG_COPY_BLOCK_SIZE : LANTHEWG_BLOCK_SIZE;
         memcpy(given, commands[i].data, sizeof commands[i].data);
         if ((depth = painted(execute)) > most) most = depth;
         if (lanthewg_is_good(answer) != commands[i].good) { printf("painted: command %zu ended otherwise than it should\n", i); return 1; }

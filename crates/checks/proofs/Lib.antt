@@ -1,2 +1,4 @@
 pub mod Rows
 pub mod Orders
+pub mod Blocks
+pub mod Views

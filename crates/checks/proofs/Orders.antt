@@ -4,9 +4,9 @@ use mathlib.Core.Bool.{Bool, true, not, _&&_, _||_, and-true, and-false}
 use Prim.Native.Nat.{ℕ, _+_, _-_, _*_, _%_, _≤_, _<_}
 use native.Mathlib.Nat.{mul-le-mul}
 use native.Mathlib.Omega.{arith}
-use native.Mathlib.Decide.{ℕ-discrete}
+use native.Mathlib.Decide.{ℕ-discrete, decLt}
 use lib.Dec.{eqb, ltb}
-use borrow.Author.Tests.{eq-eqb, ne-eqb}
+use borrow.Author.Tests.{eq-eqb, ne-eqb, lt-ltb, le-ltb}
 use Rattle.base.specs.Pick.{pick}
 use Rattle.base.proofs.Decide.{pick-true, pick-false}
 use Rattle.geometry.specs.declared.params.Lba.{Lba}
@@ -36,13 +36,18 @@ module _ (named : Bool) (control : ℕ) (some : control % 128 ≡ 0 → ⊥) whe
   unfolding controlWrong
   wrong-other h = rw (ne-eqb _ _ some, ne-eqb _ _ h, and-false)
 
--- ---- the last of `reach` addresses
-pub past-by : (p : Params) (a last there : Lba) (reach : ℕ) (past : Bool) → 1 ≤ reach → last ≡ lastAddress p → there ≡ further a (reach - 1)
-    → past ≡ ltb (last .0) (there .0) → past ≡ pastEnd a reach p
+-- ---- the last of `reach` addresses, by the ends behind both
+pub past-by : (p : Params) (a last end there : Lba) (reach : ℕ) (past : Bool) → last ≡ lastAddress p → end ≡ further last 1 → there ≡ further a reach
+    → past ≡ ltb (end .0) (there .0) → past ≡ pastEnd a reach p
 unfolding pastEnd
-past-by p a last there reach past h el et e =
-    let is : a .0 + (reach - 1) ≡ a .0 + reach - 1 = omega arith in
-    rw (e, el, et, is)
+past-by p a last end there reach past el ee et e = rw (e, ee, el, et) (ends (lastAddress p .0) (a .0 + reach))
+  where
+    ends : (l t : ℕ) → ltb (l + 1) t ≡ ltb l (t - 1)
+    ends l t = by (decLt (l + 1) t)
+      where
+        by : Dec (l + 1 < t) → ltb (l + 1) t ≡ ltb l (t - 1)
+        by (yes h) = rw (lt-ltb (l + 1) t h, lt-ltb l (t - 1) (omega arith))
+        by (no h) = rw (le-ltb (l + 1) t (omega arith), le-ltb l (t - 1) (omega arith))
 
 -- ---- bounds
 pub count-bounds : (b : Block) → b .extra < 256 → (1 ≤ countOf b) × (countOf b ≤ 256)

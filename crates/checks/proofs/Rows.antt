@@ -2,10 +2,13 @@
 use mathlib.Core.Path.{_≡_, refl, sym, ap, subst, _∙_}
 use mathlib.Core.Bool.{Bool}
 use mathlib.Core.List.{List, [], _∷_, map}
-use Prim.Native.Nat.{ℕ, zero, suc, _+_, _≤_, _<_}
-use native.Mathlib.Nat.{le-of-suc-le-suc, not-suc-le-zero}
-use lib.ListN.{length, getD, List·getD-eq-default}
-use Rattle.model.specs.Table.{Check, HardOnly, Control, FillBit, Present, Parameters, Interleave, Address, Counted, Settled, SparedWhole, checkNumber, isAmong, TableRow, applies, table, unknown, rowFor}
+use Prim.Native.Nat.{ℕ, zero, suc, _+_, _-_, _≤_, _<_}
+use native.Mathlib.Omega.{arith}
+use native.Mathlib.Nat.{le-of-suc-le-suc, not-suc-le-zero, zero-add, suc-add}
+use lib.ListN.{length, take, drop, getD}
+use Rattle.model.specs.Table.{Check, HardOnly, Control, FillBit, Present, Parameters, Interleave, Address, Counted, Settled, SparedWhole, checkNumber, isAmong, TableRow, applies, row, addressChecks, table, unknown, rowFor}
+use Rattle.model.specs.declared.table.Command.the-variants.{Copy}
+use Rattle.model.specs.declared.table.Data.the-variants.{Nothing}
 use Rattle.checks.specs.declared.table.Row.{Row}
 use Rattle.checks.specs.Rows.{has, bitOf, Says}
 
@@ -29,7 +32,7 @@ unfoldable pub rowFrom : TableRow → Row
 rowFrom e = record { command = e .command; checks = bitsOf (e .checks); takes = e .takes; gives = e .gives }
 
 unfoldable pub rows : List Row
-rows = map rowFrom table
+rows = map rowFrom (take 18 table)
 
 -- ---- each check's bit is set where it applies: ten answers a row, compared by computing
 ten : (Check → Bool) → List Bool
@@ -67,10 +70,55 @@ row-says : (opcode : ℕ) → Says (rowFrom (rowFor opcode)) (rowFor opcode)
 unfolding rowFrom bits applied
 row-says opcode = record { command = refl; takes = refl; gives = refl; checks = ten-each _ _ (entry-bits opcode) }
 
+-- the code's table ends behind 11h
+front-read : {A : Type 0} (l : List A) (n i : ℕ) (d : A) → i < n → getD (take n l) i d ≡ getD l i d
+front-read l zero i d h = absurd (not-suc-le-zero h)
+front-read [] (suc n) i d h = refl
+front-read (x ∷ xs) (suc n) zero d h = refl
+front-read (x ∷ xs) (suc n) (suc i) d h = front-read xs n i d (le-of-suc-le-suc h)
+
 pub rows-read : (opcode : ℕ) (d : Row) → opcode < 18 → Says (getD rows opcode d) (rowFor opcode)
 unfolding rows rowFor
-rows-read opcode d h = subst (λ (row : Row). Says row (rowFor opcode)) (row-read rowFrom table opcode unknown d h) (row-says opcode)
+rows-read opcode d h =
+    subst (λ (row : Row). Says row (rowFor opcode))
+    (ap rowFrom (sym (front-read table 18 opcode unknown h)) ∙ row-read rowFrom (take 18 table) opcode unknown d h) (row-says opcode)
 
-pub rows-past : (opcode : ℕ) → 18 ≤ opcode → Says (rowFrom unknown) (rowFor opcode)
+abbrev pub copyRow : TableRow
+copyRow = row Copy (Counted ∷ addressChecks) Nothing Nothing
+
+pub row-copy : (opcode : ℕ) → opcode ≡ 0x20 → Says (rowFrom copyRow) (rowFor opcode)
 unfolding rowFor
-rows-past opcode h = subst (λ (e : TableRow). Says (rowFrom e) (rowFor opcode)) (List·getD-eq-default table unknown h) (row-says opcode)
+row-copy opcode e = rw e (row-says 0x20)
+
+-- behind it only 20h is known
+rest-read : {A : Type 0} (l : List A) (n i : ℕ) (d : A) → getD l (n + i) d ≡ getD (drop n l) i d
+rest-read l zero i d = rw zero-add refl
+rest-read [] (suc n) i d = refl
+rest-read (x ∷ xs) (suc n) i d = rw suc-add (rest-read xs n i d)
+
+behind : (k : ℕ) → (k ≡ 14 → ⊥) → getD (drop 18 table) k unknown ≡ unknown
+behind zero ne = refl
+behind (suc zero) ne = refl
+behind (suc (suc zero)) ne = refl
+behind (suc (suc (suc zero))) ne = refl
+behind (suc (suc (suc (suc zero)))) ne = refl
+behind (suc (suc (suc (suc (suc zero))))) ne = refl
+behind (suc (suc (suc (suc (suc (suc zero)))))) ne = refl
+behind (suc (suc (suc (suc (suc (suc (suc zero))))))) ne = refl
+behind (suc (suc (suc (suc (suc (suc (suc (suc zero)))))))) ne = refl
+behind (suc (suc (suc (suc (suc (suc (suc (suc (suc zero))))))))) ne = refl
+behind (suc (suc (suc (suc (suc (suc (suc (suc (suc (suc zero)))))))))) ne = refl
+behind (suc (suc (suc (suc (suc (suc (suc (suc (suc (suc (suc zero))))))))))) ne = refl
+behind (suc (suc (suc (suc (suc (suc (suc (suc (suc (suc (suc (suc zero)))))))))))) ne = refl
+behind (suc (suc (suc (suc (suc (suc (suc (suc (suc (suc (suc (suc (suc zero))))))))))))) ne = refl
+behind (suc (suc (suc (suc (suc (suc (suc (suc (suc (suc (suc (suc (suc (suc zero)))))))))))))) ne = absurd (ne refl)
+behind (suc (suc (suc (suc (suc (suc (suc (suc (suc (suc (suc (suc (suc (suc (suc k))))))))))))))) ne = refl
+
+pub rows-past : (opcode : ℕ) → 18 ≤ opcode → (opcode ≡ 0x20 → ⊥) → Says (rowFrom unknown) (rowFor opcode)
+unfolding rowFor
+rows-past opcode h ne =
+    let at : opcode ≡ 18 + (opcode - 18) = omega arith in
+    let none : getD table opcode unknown ≡ unknown =
+    ap (λ (i : ℕ). getD table i unknown) at ∙ rest-read table 18 (opcode - 18) unknown ∙ behind (opcode - 18) (λ e. ne (omega (arith, at, e)))
+    in
+    subst (λ (e : TableRow). Says (rowFrom e) (rowFor opcode)) none (row-says opcode)

@@ -1,4 +1,5 @@
 -- Parameters, where there are any, are within their ranges.
+use Prim.Native.Nat.{_≤_}
 use mathlib.Core.Path.{_≡_}
 use Rattle.geometry.specs.declared.params.Params.{Params}
 use Rattle.geometry.specs.declared.config.Setting.{Setting}
@@ -7,3 +8,7 @@ use Rattle.geometry.specs.Params.{Within}
 
 abbrev pub Legal : Setting → Type 0
 Legal setting = (p : Params) → setting ≡ Valid p → Within p
+
+-- No sector is shorter than a floppy's, so that a Copy fills at most 1,024.
+abbrev pub Sized : Setting → Type 0
+Sized setting = (p : Params) → setting ≡ Valid p → 128 ≤ p .size

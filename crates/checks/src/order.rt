@@ -40,12 +40,13 @@ fn is_unknown(command: Command) -> bool
     match command {
         Command::Free(_) => false,
         Command::OnDisk(_) => false,
+        Command::Copy => false,
         Command::Unknown => true,
     }
 }
 
 // A control bit that is not defined.
-fn control_wrong(named: bool, control: u8) -> bool
+pub fn control_wrong(named: bool, control: u8) -> bool
     ensures { λ r. ⌜ r ≡ controlWrong «named» control ⌝ }
 {
     let low = control % 128;
@@ -70,7 +71,7 @@ fn block_wrong(row: Row, b: Block, view: View) -> bool
     either(b.top, either(lacked, both(has(checks, CONTROL), wrong)))
 }
 
-fn is_valid(setting: Setting) -> bool
+pub fn is_valid(setting: Setting) -> bool
     ensures { λ r. ⌜ r ≡ isValid setting ⌝ }
 {
     match setting {
@@ -99,15 +100,16 @@ fn interleave_wrong(f: u8, setting: Setting) -> bool
     }
 }
 
-// Up to 1,024 sectors: a Read or Write has 256 at the most, a Copy (request E5) fills as many as that.
-fn past_end(a: Lba, reach: usize, setting: Setting) -> bool
-    requires { ⌜ Legal setting × (a .0 < addressLimit) × (1 ≤ reach) × (reach ≤ 1024) ⌝ }
+// Up to 1,024 sectors: a Read or Write has 256 at the most, a Copy (request E5) fills as many as that. Where it fills none, one of its
+// drives has no parameters.
+pub fn past_end(a: Lba, reach: usize, setting: Setting) -> bool
+    requires { ⌜ Legal setting × (a .0 < addressLimit) × (reach ≤ 1024) ⌝ }
     ensures { λ r. ⌜ r ≡ withParams setting (pastEnd a reach) ⌝ }
 {
     match setting {
         Setting::Valid(p) => {
-            let last = p.last_address();
-            a.further(reach - 1).is_past(last)
+            let end = p.last_address().further(1);
+            a.further(reach).is_past(end)
         }
         Setting::Invalid => false,
     }
@@ -160,7 +162,7 @@ fn reach_of(counted: bool, b: Block) -> usize
 
 // The checks that hit.
 fn hits_of(row: Row, b: Block, reach: usize, view: View, given: usize, area: usize) -> Hits
-    requires { ⌜ Says row (rowFor (b .opcode)) × Legal (view .setting) × WellFormed b × (1 ≤ reach) × (reach ≤ 1024) ⌝ }
+    requires { ⌜ Says row (rowFor (b .opcode)) × Legal (view .setting) × WellFormed b × (reach ≤ 1024) ⌝ }
     ensures { λ r. ⌜ r ≡ hitsOf (rowFor (b .opcode)) b reach view given area ⌝ }
 {
     let command = row.command;
@@ -184,7 +186,7 @@ fn hits_of(row: Row, b: Block, reach: usize, view: View, given: usize, area: usi
 }
 
 // The first check that hits, in document 01's order.
-fn order(at: Lba, hits: Hits) -> Verdict
+pub fn order(at: Lba, hits: Hits) -> Verdict
     ensures { λ r. ⌜ r ≡ judged (inOrder at hits) ⌝ }
 {
     if hits.unknown {

@@ -143,12 +143,23 @@ const TABLE: [Row; 18] = [
     },
 ];
 
+// The row at 20h. The table ends at 11h: with the rows between, all of them unknown, each look would copy nearly twice as much.
+const COPY: Row = Row {
+    command: Command::Copy,
+    checks: AT_ADDRESS + COUNTED,
+    takes: Data::Nothing,
+    gives: Data::Nothing,
+};
+
 // What the table says of an opcode.
 pub fn row_of(opcode: u8) -> Row
     ensures { λ r. ⌜ Says r (rowFor opcode) ⌝ }
 {
     if opcode < 18 {
         return TABLE[opcode as usize];
+    }
+    if opcode == 0x20 {
+        return COPY;
     }
     UNKNOWN
 }

@@ -15,11 +15,11 @@ use Rattle.track.specs.declared.state.State.the-variants.{Sound, Bad}
 use Rattle.track.specs.Image.{Fits}
 use Rattle.track.specs.declared.find.Sector.the-variants.{Slot}
 use Rattle.track.specs.Pair.{pairSplit}
-use Rattle.sectors.specs.Transfer.{begun, found, reading, writing}
-use Rattle.contents.specs.Content.{Bytes, contentOf, put}
+use Rattle.sectors.specs.Transfer.{Transfer, begun, writeSlot, found, reading, writing}
+use Rattle.contents.specs.Content.{Bytes, Missing, contentOf, put}
 -- the laws' words
-pub use Rattle.contents.proofs.Terms.{dataStart, Given, ForTracks, NotTaken, trackMade, pairMade, driveMade}
-unfoldable pub use Rattle.contents.proofs.Terms.{bytesAt, putAll}
+pub use Rattle.contents.proofs.Terms.{dataStart, Stands, stands, Given, ForTracks, NotTaken, trackMade, pairMade, driveMade}
+unfoldable pub use Rattle.contents.proofs.Terms.{readBytes, bytesAt, putAll}
 use Rattle.sectors.proofs.Laws as Sectors
 use Rattle.contents.proofs.Puts
 use Rattle.contents.proofs.Readings
@@ -68,11 +68,29 @@ module _ (p : Params) (image : List ℕ) (f : Fits p image) where
       → put p a x (put p b y image) ≡ put p b y (put p a x image)
   put-comm = Puts.put-comm p image f
 
+-- One sector written is one put.
+pub wrote : (p : Params) (a : Lba) (sector : List ℕ) (x : Transfer) (u : Track) (k : ℕ) → found p a (x .image) ≡ Slot u k
+    → writeSlot p sector x u k .image ≡ put p a sector (x .image)
+wrote = Writings.wrote
+
 -- ---- Transfers of n sectors from address a on
 module _ (p : Params) (n : ℕ) (a : Lba) (image : List ℕ) where
   -- a Read hands over the contents of the sectors done
   pub reading-contents : reading p n a (begun image) .handed ≡ bytesAt p (reading p n a (begun image) .done) a image
   reading-contents = Readings.reading-contents p n a image
+
+  -- each of which is found
+  pub reading-finds : (i : ℕ) → i < reading p n a (begun image) .done → Stands p (further a i) image
+  reading-finds = Readings.reading-finds p n a image
+
+  -- where all are done, none failed
+  pub reading-whole : reading p n a (begun image) .done ≡ n → reading p n a (begun image) .code ≡ 0
+  reading-whole = Readings.reading-whole p n a image
+
+  -- else the first that is not done is missing, for the code that ended it
+  pub reading-stop : reading p n a (begun image) .done < n
+      → contentOf p (further a (reading p n a (begun image) .done)) image ≡ Missing (reading p n a (begun image) .code)
+  reading-stop = Readings.reading-stop p n a image
 
   module _ (given : List ℕ) where
     abbrev done : ℕ
@@ -85,11 +103,26 @@ module _ (p : Params) (n : ℕ) (a : Lba) (image : List ℕ) where
     pub writing-puts : written ≡ putAll p done a given image
     writing-puts = Writings.writing-puts p n a given image
 
+    -- no more than were asked for
+    pub writing-most : done ≤ n
+    writing-most = Writings.writing-most p n a given image
+
     -- and where none failed, all are done
     pub writing-all : writing p n a given (begun image) .code ≡ 0 → done ≡ n
     writing-all = Writings.writing-all p n a given image
 
+    -- and the other way
+    pub writing-whole : done ≡ n → writing p n a given (begun image) .code ≡ 0
+    writing-whole = Writings.writing-whole p n a given image
+
     module _ (f : Fits p image) (g : Given p n a given) where
+      -- the image stays as long, and fits
+      pub writing-length : length written ≡ length image
+      writing-length = Writings.writing-length p n a given image f g
+
+      pub writing-fits : Fits p written
+      writing-fits = Writings.writing-fits p n a given image f g
+
       -- each of those done reads what was given for it
       pub writing-given : (i : ℕ) → i < done → contentOf p (further a i) written ≡ Bytes (part (i * p .size) (p .size) given)
       writing-given = Writings.writing-given p n a given image f g

@@ -9,7 +9,7 @@ use Rattle.geometry.specs.declared.config.Setting.{Setting}
 use Rattle.geometry.specs.declared.config.Setting.the-variants.{Valid, Invalid}
 use Rattle.model.specs.declared.block.Block.{Block}
 use Rattle.model.specs.declared.table.Command.{Command}
-use Rattle.model.specs.declared.table.Command.the-variants.{Free, OnDisk, Unknown}
+use Rattle.model.specs.declared.table.Command.the-variants.{Free, OnDisk, Copy, Unknown}
 use Rattle.model.specs.declared.table.FreeCommand.{FreeCommand}
 use Rattle.model.specs.declared.table.FreeCommand.the-variants.{RequestSense, WriteBuffer, ReadBuffer, Initialize}
 use Rattle.model.specs.declared.table.DiskCommand.{DiskCommand}
@@ -123,5 +123,17 @@ module _ (b : Block) (setting : Setting) (given : List ℕ) (entry : Drive) (buf
       fails = effect (failed (b .drive) (b .drive) 0x20 (b .address) 0 0 entry) buffer [] image
 
       by : (s : Setting) → fails ≡ carryOut b s given entry buffer image Unknown
+      by Invalid = refl
+      by (Valid p) = refl
+
+  pub copy-carries : (command : Command) (r : Ending) → command ≡ Copy → r ≡ failed (b .drive) (b .drive) 0x20 (b .address) 0 0 entry
+      → leftNow r buffer area image ≡ leftBy (carryOut b setting given entry buffer image command) area
+  unfolding carryOut
+  copy-carries command r is er = rw is (left-unhanded _ r buffer area image (rw er (by setting)))
+    where
+      fails : Effect
+      fails = effect (failed (b .drive) (b .drive) 0x20 (b .address) 0 0 entry) buffer [] image
+
+      by : (s : Setting) → fails ≡ carryOut b s given entry buffer image Copy
       by Invalid = refl
       by (Valid p) = refl

@@ -7,11 +7,8 @@ use native.Mathlib.Omega.{arith}
 use lib.ListN.{length}
 use Rattle.base.specs.Pick.{pick}
 use Rattle.geometry.specs.declared.params.Lba.{Lba}
-use Rattle.geometry.specs.declared.medium.Medium.{Medium}
 use Rattle.geometry.specs.declared.config.Setting.{Setting}
-use Rattle.geometry.specs.declared.config.Setting.the-variants.{Invalid}
 use Rattle.geometry.specs.Medium.{mediumOf}
-use Rattle.geometry.proofs.Settings.{setting-within}
 use Rattle.model.specs.declared.block.Block.{Block}
 use Rattle.model.specs.declared.table.Command.{Command}
 use Rattle.model.specs.declared.record.Drive.{Drive}
@@ -20,42 +17,21 @@ use Rattle.model.specs.declared.verdict.View.{View}
 use Rattle.model.specs.declared.verdict.Verdict.{Verdict}
 use Rattle.model.specs.declared.verdict.Verdict.the-variants.{Refused, Faulty, Passed}
 use Rattle.model.specs.Table.{rowFor}
-use Rattle.model.specs.Checks.{inOrder, judge}
-use Rattle.model.specs.Record.{settingIn, refused, failed, unless}
+use Rattle.model.specs.Checks.{judge}
+use Rattle.model.specs.Record.{settingIn, refused, failed, unless, unlessNamed}
 use Rattle.model.specs.Commands.{carryOut}
 use Rattle.model.specs.Engine.{viewOf, obey}
 use Rattle.model.specs.Premises.{addressLimit, WellFormed}
-use Rattle.model.proofs.engine.Judged.{fault-in, fault-past, fault-none}
-use Rattle.checks.specs.Legal.{Legal}
+use Rattle.checks.proofs.Views.{fault-over}
 use Rattle.endings.specs.Left.{Left, leftNow, leftBy}
 use Rattle.dispatch.specs.Ready.{Admitted}
 use Rattle.dispatch.proofs.Carries.{left-unhanded}
 
--- ---- a drive's setting is legal
-legal-pick : (known : Bool) (s : Setting) → Legal s → Legal (pick known s Invalid)
-unfolding pick
-legal-pick true s l = l
-legal-pick false s l = λ p e. absurd (let z : _≡_ {A = ℕ} 0 1 = cc in omega arith)
-
-pub view-legal : (medium : Medium) (entry : Drive) (image : ℕ) (v : View) → v ≡ viewOf medium entry image → Legal (v .setting)
-unfolding viewOf settingIn
-view-legal medium entry image v is = rw is (legal-pick (entry .known) _ (λ p e. setting-within medium _ _ p e .0))
-
 -- ---- the codes of the order are below 80h, and all go with the block's address
 pub fault-below : (b : Block) (v : View) (given area : ℕ) (verdict : Verdict) → verdict ≡ judge b v given area
     → (code : ℕ) (at : Lba) → verdict ≡ Faulty code at → b .address .0 < addressLimit → (code < 0x80) × (at .0 < addressLimit)
-unfolding judge inOrder
-fault-below b v given area verdict is code at e h =
-    let P : ℕ → Lba → Type 0 = λ k l. (k < 0x80) × (l .0 < addressLimit) in
-    fault-in P code at _ _ _ _ (omega arith, h) (λ _.
-    fault-in P code at _ _ _ _ (omega arith, h) (λ _.
-    fault-in P code at _ _ _ _ (omega arith, h) (λ _.
-    fault-in P code at _ _ _ _ (omega arith, h) (λ _.
-    fault-in P code at _ _ _ _ (omega arith, h) (λ _.
-    fault-in P code at _ _ _ _ (omega arith, h) (λ _.
-    fault-in P code at _ _ _ _ (omega arith, h) (λ _.
-    fault-past P code at _ _ _ (λ _. fault-past P code at _ _ _ (λ _. fault-none P code at)))))))))
-    (sym is ∙ e)
+unfolding judge
+fault-below b v given area verdict is code at e h = fault-over b _ v given area verdict is code at e h
 
 -- ---- the verdict on a command, by what the checks see of its drive
 module _ (b : Block) (given : List ℕ) (entry : Drive) (area image : List ℕ) (v : View) (ev : v ≡ viewOf (mediumOf (b .drive)) entry (length image)) where
@@ -73,15 +49,15 @@ module _ (b : Block) (given : List ℕ) (entry : Drive) (area image : List ℕ) 
     -- ---- what is left
     pub obey-refused : (buffer : List ℕ) (r : Ending) (number : ℕ) → verdict ≡ Refused number → r ≡ refused number entry
         → leftNow r buffer area image ≡ leftBy (obey b given (length area) entry buffer image) area
-    unfolding obey unless
+    unfolding obey unlessNamed
     obey-refused buffer r number e er = left-unhanded _ r buffer area image (rw (judged-by ∙ e, er))
 
     pub obey-failed : (buffer : List ℕ) (r : Ending) (code : ℕ) (at : Lba) → verdict ≡ Faulty code at
         → r ≡ failed (b .drive) (b .drive) code at 0 0 entry → leftNow r buffer area image ≡ leftBy (obey b given (length area) entry buffer image) area
-    unfolding obey unless
+    unfolding obey unlessNamed
     obey-failed buffer r code at e er = left-unhanded _ r buffer area image (rw (judged-by ∙ e, er))
 
     pub obey-carried : (buffer : List ℕ) (command : Command) (x : Left) → verdict ≡ Passed → rowFor (b .opcode) .command ≡ command
         → x ≡ leftBy (carryOut b (v .setting) given entry buffer image command) area → x ≡ leftBy (obey b given (length area) entry buffer image) area
-    unfolding obey unless
+    unfolding obey unlessNamed
     obey-carried buffer command x e ec h = rw (judged-by ∙ e, ec, ← ev) h

@@ -96,6 +96,8 @@ fn carry_out(
         Command::Free(work) => do_free(entry, b, buffer, given, area, image, work),
         Command::OnDisk(work) => with_setting(entry, b, setting, buffer, given, area, image, work),
         Command::Unknown => failed(entry, b.drive, b.drive, 0x20, b.address, 0, 0),
+        // no block of six bytes is a Copy
+        Command::Copy => failed(entry, b.drive, b.drive, 0x20, b.address, 0, 0),
     }
 }
 

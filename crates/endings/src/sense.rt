@@ -12,6 +12,9 @@ fn is_addressed(code: u8) -> bool
     if code == 0x21 {
         return true;
     }
+    if code == 0x23 {
+        return true;
+    }
     if code < 0x10 {
         return false;
     }

@@ -1,8 +1,13 @@
 // A command from its block to its outcome: the record and the images are put together here, and nowhere else.
 use checks::block::decode;
+use checks::block::decode_copy;
+use checks::block::is_copy;
+use checks::block::is_whole;
+use copies::obey::obey_copy;
 use dispatch::obey::obey;
 use endings::ending::bare_answer;
 use model::block::Block;
+use model::block::CopyBlock;
 use model::record::Answer;
 use model::record::Controller;
 use model::record::Drive;
@@ -12,15 +17,26 @@ ghost use mathlib.Core.Path.{_≡_};
 ghost use Prim.Native.Nat.{_<_};
 ghost use lib.ListN.{length, getD, set};
 ghost use Rattle.model.specs.Record.{blankDrive};
+ghost use mathlib.Core.Bool.{true};
+ghost use Rattle.model.specs.Block.{blockOf, isWhole};
 ghost use Rattle.model.specs.Engine.{imagesOf, execute};
 ghost use Rattle.model.specs.Premises.{WellFormed};
-ghost use Rattle.engine.specs.Results.{lentNow, obeyed, resultNow};
+ghost use Rattle.engine.specs.Results.{lentNow, obeyed, resultNow, IsCopy, CopyRan};
 
 fn drive_at(drives: [Drive; 4], drive: u8) -> Drive
     requires { ⌜ drive < 4 ⌝ }
     ensures { λ r. ⌜ r ≡ getD drives drive blankDrive ⌝ }
 {
-    drives[drive as usize]
+    if drive == 0 {
+        return drives[0];
+    }
+    if drive == 1 {
+        return drives[1];
+    }
+    if drive == 2 {
+        return drives[2];
+    }
+    drives[3]
 }
 
 fn with_drive(drives: [Drive; 4], drive: u8, entry: Drive) -> [Drive; 4]
@@ -68,6 +84,76 @@ pub struct Ran {
     pub answer: Answer,
 }
 
+// A Copy, on the entries of its two drives: the data area is not touched.
+fn run_copy(
+    drives: [Drive; 4],
+    k: CopyBlock,
+    buffer: &mut [u8],
+    image0: &mut [u8],
+    image1: &mut [u8],
+    image2: &mut [u8],
+    image3: &mut [u8],
+) -> Ending
+    requires { ⌜ IsCopy k × (length (now buffer) ≡ 512) ⌝ }
+    ensures { λ r. ⌜ CopyRan k (record { buffer = now (buffer .entry); drives = drives })
+        (imagesOf (now (image0 .entry)) (now (image1 .entry)) (now (image2 .entry)) (now (image3 .entry)))
+        (record { controller = record { buffer = now (buffer .exit); drives = set drives (k .from .drive) (r .entry) }; answer = r .answer })
+        (imagesOf (now (image0 .exit)) (now (image1 .exit)) (now (image2 .exit)) (now (image3 .exit))) ⌝ }
+{
+    let from = k.from;
+    let to = k.to;
+    if to.drive == from.drive {
+        let entry = drive_at(drives, to.drive);
+        return obey_copy(entry, entry, k, buffer, image0, image1, image2, image3);
+    }
+    let source = drive_at(drives, from.drive);
+    let target = drive_at(drives, to.drive);
+    obey_copy(source, target, k, buffer, image0, image1, image2, image3)
+}
+
+// A whole block: what it leaves of the drive in its byte 1, which is a Copy's source, with the answer.
+fn run_block(
+    drives: [Drive; 4],
+    block: &[u8],
+    buffer: &mut [u8],
+    given: &[u8],
+    area: &mut [u8],
+    image0: &mut [u8],
+    image1: &mut [u8],
+    image2: &mut [u8],
+    image3: &mut [u8],
+) -> Ending
+    requires { ⌜ (isWhole (now block) ≡ true) × (length (now buffer) ≡ 512) ⌝ }
+    ensures { λ r. ⌜ resultNow (record {
+      controller = record {
+        buffer = now (buffer .exit);
+        drives = set drives (blockOf (now (block .entry)) .drive) (r .entry);
+      };
+      answer = r .answer;
+    })
+        (now (area .exit)) (imagesOf (now (image0 .exit)) (now (image1 .exit)) (now (image2 .exit)) (now (image3 .exit)))
+        ≡ execute (record { buffer = now (buffer .entry); drives = drives }) (now (block .entry)) (now (given .entry)) (now (area .entry))
+        (imagesOf (now (image0 .entry)) (now (image1 .entry)) (now (image2 .entry)) (now (image3 .entry))) ⌝ }
+{
+    if is_copy(block) {
+        let k = decode_copy(block);
+        return run_copy(drives, k, buffer, image0, image1, image2, image3);
+    }
+    let b = decode(block);
+    let before = drive_at(drives, b.drive);
+    on_images(
+        before,
+        b,
+        buffer,
+        given,
+        area,
+        image0,
+        image1,
+        image2,
+        image3,
+    )
+}
+
 // A command: any block, given data, data area and images. The buffer is lent, so that no call copies it.
 pub fn execute_on(
     drives: [Drive; 4],
@@ -85,17 +171,15 @@ pub fn execute_on(
         ≡ execute (record { buffer = now (buffer .entry); drives = drives }) (now (block .entry)) (now (given .entry)) (now (area .entry))
         (imagesOf (now (image0 .entry)) (now (image1 .entry)) (now (image2 .entry)) (now (image3 .entry))) ⌝ }
 {
-    if block.len() != 6 {
+    if !is_whole(block) {
         return Ran {
             drives: drives,
             answer: bare_answer(1),
         };
     }
-    let b = decode(block);
-    let drive = b.drive;
-    let ending = on_images(
-        drive_at(drives, drive),
-        b,
+    let ending = run_block(
+        drives,
+        block,
         buffer,
         given,
         area,
@@ -104,6 +188,7 @@ pub fn execute_on(
         image2,
         image3,
     );
+    let drive = block[1] / 32 % 4;
     let entry = ending.entry;
     let answer = ending.answer;
     let after = with_drive(drives, drive, entry);

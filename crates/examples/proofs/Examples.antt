@@ -30,12 +30,12 @@ use Rattle.model.specs.declared.block.Block.{Block}
 use Rattle.model.specs.declared.record.Drive.{Drive}
 use Rattle.model.specs.declared.record.Controller.{Controller}
 use Rattle.model.specs.declared.verdict.Verdict.the-variants.{Faulty, Passed}
-use Rattle.model.specs.Block.{blockOf, countOf, fromBuffer, alternateOf}
+use Rattle.model.specs.Block.{blockOf, countOf, fromBuffer, alternateOf, isCopy, blockLength, isWhole}
 use Rattle.model.specs.Table.{checkNumber, isAmong, rowFor}
 use Rattle.model.specs.declared.verdict.View.{View}
 use Rattle.model.specs.Checks.{judged, presentWith, isUnknown, blockWrong, controlWrong, withParams, interleaveWrong, pastEnd, notSpared, sizeIn, bytesOf, reachOf, hitsOf, inOrder, judge}
 use Rattle.model.specs.Sense.{addressed, senseOf}
-use Rattle.model.specs.Record.{blankDrive, driveAt, sensed, settingIn, bareAnswer, failed, good, unless}
+use Rattle.model.specs.Record.{blankDrive, driveAt, sensed, settingIn, bareAnswer, failed, good, unlessNamed}
 use Rattle.model.specs.Commands.{plainByte, plainFill, fillOf, madeAt, driveFormatted, pendingEnded, formatDrive, transferEnding, transferred, read}
 use Rattle.model.specs.Commands.{assignTests, assigned, assignAlternate, doFree, doTrack, doSectors, asEffect, doDisk, carryOut}
 use Rattle.model.specs.Engine.{viewOf, obey, Result, imagesOf, imageOf, left, onDrive, execute}
@@ -152,9 +152,9 @@ unfolding InSlot config lengthOf lengthFor one block four address ready on then 
     flagOf partnerOf idBytes idIn idFor ownId trackBytes withTrack slotId firstId withSector slotMade slotsMade formatted
     stateBy stateOf oneBelow splits pairSplit blockOf countOf rowFor presentWith
     judge judged inOrder hitsOf isUnknown blockWrong controlWrong withParams interleaveWrong pastEnd notSpared isValid reachOf sizeIn bytesOf isAmong checkNumber
-    addressed senseOf blankDrive driveAt sensed settingIn failed good unless plainByte plainFill fillOf fromBuffer alternateOf madeAt assignTests assigned assignAlternate driveFormatted soundFrom formatDrive pendingEnded asEffect doFree doTrack doSectors doDisk carryOut
+    addressed senseOf blankDrive driveAt sensed settingIn failed good unlessNamed plainByte plainFill fillOf fromBuffer alternateOf madeAt assignTests assigned assignAlternate driveFormatted soundFrom formatDrive pendingEnded asEffect doFree doTrack doSectors doDisk carryOut
     isBad isMoved isTaken takenBy whereBy whereOf holds slotUsed sectorIn sectorFrom sectorFound slotData begun ended readSlot onward found reading transferEnding transferred read
-    viewOf obey imageOf left onDrive execute
+    viewOf obey imageOf left onDrive execute isCopy blockLength isWhole
     freshDisk becomes filled assignTo parted partedBy someParted
 examples = (
   (refl, refl),

@@ -20,7 +20,7 @@ use Rattle.model.specs.declared.block.Block.{Block}
 use Rattle.model.specs.declared.record.Drive.{Drive}
 use Rattle.model.specs.declared.record.Ending.{Ending}
 use Rattle.model.specs.declared.verdict.Verdict.the-variants.{Faulty}
-use Rattle.model.specs.Record.{failed, good, unless}
+use Rattle.model.specs.Record.{failed, good, unless, unlessNamed}
 use Rattle.model.specs.Commands.{checkTests, checkTrack}
 use Rattle.model.proofs.engine.Judged.{judged-hit, judged-on, judged-none}
 use Rattle.formats.proofs.Makings.{layout-lent}
@@ -64,10 +64,10 @@ module _ (b : Block) (p : Params) (entry : Drive) (image map : List ℕ) (r : En
   is-code = sym (ec ∙ rw (et, layout-lent (p .sectors) (b .extra) map h em))
 
   pub check-fails : (code ≡ 0 → ⊥) → r ≡ failed (b .drive) (b .drive) code (b .address) 0 0 entry → r ≡ checkTrack b p entry image
-  unfolding checkTrack checkTests unless
+  unfolding checkTrack checkTests unlessNamed
   check-fails k er = rw (is-code, judged-hit _ (Faulty code (b .address)) [] (ap not (ne-eqb _ _ k))) er
 
   pub check-well : code ≡ 0 → r ≡ good (b .drive) 0 0 entry → r ≡ checkTrack b p entry image
-  unfolding checkTrack checkTests unless
+  unfolding checkTrack checkTests unlessNamed
   check-well k er =
       rw (is-code, judged-on _ (Faulty code (b .address)) [] (ap not (eq-eqb _ _ k)), judged-none) er

@@ -36,13 +36,14 @@ size-row byte d h = row-same d _ byte h
 pub record Sized (s : Size) : Type 0 where
   pub sectors-some : 2 ≤ s .sectors
   pub sectors-most : s .sectors ≤ 32
+  pub bytes-some : 128 ≤ s .bytes
   pub bytes-most : s .bytes ≤ 512
 
 sized-row : (k : ℕ) → Sized (getD sizes k (record { bytes = 128; sectors = 16 }))
-sized-row zero = record { sectors-some = omega arith; sectors-most = omega arith; bytes-most = omega arith }
-sized-row (suc zero) = record { sectors-some = omega arith; sectors-most = omega arith; bytes-most = omega arith }
-sized-row (suc (suc zero)) = record { sectors-some = omega arith; sectors-most = omega arith; bytes-most = omega arith }
-sized-row (suc (suc (suc k))) = record { sectors-some = omega arith; sectors-most = omega arith; bytes-most = omega arith }
+sized-row zero = record { sectors-some = omega arith; sectors-most = omega arith; bytes-some = omega arith; bytes-most = omega arith }
+sized-row (suc zero) = record { sectors-some = omega arith; sectors-most = omega arith; bytes-some = omega arith; bytes-most = omega arith }
+sized-row (suc (suc zero)) = record { sectors-some = omega arith; sectors-most = omega arith; bytes-some = omega arith; bytes-most = omega arith }
+sized-row (suc (suc (suc k))) = record { sectors-some = omega arith; sectors-most = omega arith; bytes-some = omega arith; bytes-most = omega arith }
 
 pub size-sized : (byte : ℕ) → Sized (sizeFor byte)
 unfolding sizeFor
@@ -148,6 +149,13 @@ fitted-valid q image p e =
     let v = pick-valid _ _ p e in
     (valid-same q p (v .1), leb-true _ _ (v .0))
 
+by-some : (medium : Medium) (cylinders heads step size burst image : ℕ) (p : Params) → settingBy medium cylinders heads step size burst image ≡ Valid p
+    → 128 ≤ p .size
+unfolding settingBy
+by-some medium cylinders heads step size burst image p e =
+    let f = fitted-valid _ image p (pick-valid _ _ p e .1) in
+    subst (λ (q : Params). 128 ≤ q .size) (f .0) (size-sized size .bytes-some)
+
 by-within : (medium : Medium) (cylinders heads step size burst image : ℕ) (p : Params) → settingBy medium cylinders heads step size burst image ≡ Valid p
     → Within p × (imageLength p ≤ image)
 unfolding settingBy
@@ -161,6 +169,10 @@ pub setting-within : (medium : Medium) (config : List ℕ) (image : ℕ) (p : Pa
     → Within p × (imageLength p ≤ image)
 unfolding settingOf
 setting-within medium c image p e = by-within medium _ _ _ _ _ image p (pick-valid _ _ p e .1)
+
+pub setting-some : (medium : Medium) (config : List ℕ) (image : ℕ) (p : Params) → settingOf medium config image ≡ Valid p → 128 ≤ p .size
+unfolding settingOf
+setting-some medium c image p e = by-some medium _ _ _ _ _ image p (pick-valid _ _ p e .1)
 
 pub setting-ten : (medium : Medium) (config : List ℕ) (image : ℕ) (p : Params) → settingOf medium config image ≡ Valid p → length config ≡ 10
 unfolding settingOf

@@ -15,6 +15,7 @@ use Rattle.base.specs.Part.{splice}
 use Rattle.base.proofs.Decide.{pick-true, pick-false}
 use Rattle.model.specs.declared.record.Controller.{Controller}
 use Rattle.model.specs.declared.record.Outcome.{Outcome}
+use Rattle.model.specs.Block.{blockLength}
 use Rattle.model.specs.Engine.{execute, resetOf}
 use Rattle.engine.specs.Results.{resultNow}
 use Rattle.hex.specs.declared.line.Line.{Line}
@@ -60,20 +61,21 @@ drop-most n xs = take-all (length xs - min n (length xs)) (drop (min n (length x
     by (no h) = drop-of-length-le xs {i = min n (length xs)} (omega arith) ∙ sym (drop-of-length-le xs {i = n} (omega arith))
 
 -- ---- the answer to a frame: a part lent from the front is `take (k - 0)`
-pub frame-answered : (c : Controller) (frame area area′ text after : List ℕ) (images images′ : List (List ℕ)) (outcome : Outcome) (k m n : ℕ)
+pub frame-answered : (c : Controller) (frame area area′ text after : List ℕ) (images images′ : List (List ℕ)) (outcome : Outcome) (long k m n : ℕ)
     → 7 + 2 * length area ≤ length text → length area′ ≡ length area
-    → k ≡ min 6 (length frame) → m ≡ min (outcome .answer .bytes) (length area′)
+    → long ≡ blockLength frame → k ≡ min long (length frame) → m ≡ min (outcome .answer .bytes) (length area′)
     → resultNow outcome area′ images′ ≡ execute c (take (k - 0) frame) (take (length frame - k) (drop k frame)) area images
     → (n ≡ 7 + 2 * length (take (m - 0) area′)) × (after ≡ splice 0 (answerText (outcome .answer) (take (m - 0) area′)) text)
     → Says (frameSaid c frame area images) (record { controller = outcome .controller; length = n }) text after area′ images′
 unfolding frameSaid resultSaid
-frame-answered c frame area area′ text after images images′ outcome k m n room same ek em done told =
+frame-answered c frame area area′ text after images images′ outcome long k m n room same el ek em done told =
     let handed : List ℕ = take (m - 0) area′ in
     let l : length handed ≤ length area = rw (length-take (m - 0) area′) (omega arith) in
     let all : handed ≡ take (outcome .answer .bytes) area′ = rw (sub-zero m, em) (take-most (outcome .answer .bytes) area′) in
-    let block : take (k - 0) frame ≡ take 6 frame = rw (sub-zero k, ek) (take-most 6 frame) in
-    let rest : take (length frame - k) (drop k frame) ≡ drop 6 frame = rw ek (drop-most 6 frame) in
-    let result : resultNow outcome area′ images′ ≡ execute c (take 6 frame) (drop 6 frame) area images = rw (← block, ← rest) done in
+    let block : take (k - 0) frame ≡ take (blockLength frame) frame = rw (sub-zero k, ek, el) (take-most (blockLength frame) frame) in
+    let rest : take (length frame - k) (drop k frame) ≡ drop (blockLength frame) frame = rw (ek, el) (drop-most (blockLength frame) frame) in
+    let result : resultNow outcome area′ images′ ≡ execute c (take (blockLength frame) frame) (drop (blockLength frame) frame) area images =
+    rw (← block, ← rest) done in
     let count : n ≡ length (answerText (outcome .answer) handed) = told-length (outcome .answer) handed text (omega arith) n (told .0) in
     let written = front-taken (answerText (outcome .answer) handed) text after n count (told .1) in
     rw (← result, ← all) (rw written, count, told .1)

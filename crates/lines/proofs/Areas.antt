@@ -5,10 +5,8 @@ use mathlib.Core.List.{List, []}
 use native.Mathlib.Omega.{arith}
 use native.Mathlib.Nat.{mul-le-mul-right}
 use lib.ListN.{length}
-use lib.Dec.{eqb}
 use Rattle.base.specs.Pick.{pick}
 use Rattle.base.proofs.Parts.{length-splice}
-use Rattle.base.proofs.Decide.{pick-both}
 use Rattle.geometry.specs.declared.params.Params.{Params}
 use Rattle.geometry.specs.declared.config.Setting.{Setting}
 use Rattle.geometry.specs.declared.config.Setting.the-variants.{Valid, Invalid}
@@ -31,11 +29,13 @@ use Rattle.model.specs.declared.verdict.Verdict.the-variants.{Refused, Faulty, 
 use Rattle.model.specs.Block.{blockOf, countOf}
 use Rattle.model.specs.Table.{isAmong, checkNumber, TableRow, rowFor}
 use Rattle.model.specs.Checks.{sizeIn, bytesOf, judge}
-use Rattle.model.specs.Record.{Effect, effect, unless, driveAt}
+use Rattle.model.specs.Record.{Effect, effect, unless, unlessNamed, driveAt}
 use Rattle.model.specs.Commands.{read, transferred, doSectors, doDisk, carryOut}
 use Rattle.model.specs.Engine.{Result, viewOf, obey, imageOf, left, onDrive, execute}
 use Rattle.model.proofs.engine.Known.{setting-known}
 use Rattle.model.proofs.engine.Checked.{opcodeFor, row-of, Cleared, cleared, area-enough, count-cleared}
+use Rattle.model.proofs.engine.Blocks.{by-block}
+use Rattle.model.proofs.engine.CopyLeaves.{copy-leaves}
 use Rattle.model.proofs.engine.Leaving.{Hands, nothing, no-sense, own-sense, no-buffer, own-buffer, read-out, Obeyed, answered, denied, obeyed}
 
 module _ (b : Block) (given : List ℕ) (area : ℕ) (entry : Drive) (buffer image : List ℕ)
@@ -59,7 +59,7 @@ module _ (b : Block) (given : List ℕ) (area : ℕ) (entry : Drive) (buffer ima
         (area-enough b view (length given) area passed)
 
     after-passed : after ≡ carryOut b (view .setting) given entry buffer image (rowFor (b .opcode) .command)
-    unfolding obey unless
+    unfolding obey unlessNamed
     after-passed =
         ap (λ (v : Verdict). unless v (b .drive) entry (λ e. effect e buffer [] image)
         (carryOut b (view .setting) given entry buffer image (rowFor (b .opcode) .command))) passed
@@ -100,7 +100,7 @@ module _ (b : Block) (given : List ℕ) (area : ℕ) (entry : Drive) (buffer ima
     passed-fits (denied number low high e) = rw e (omega arith)
 
   by-verdict : (v : Verdict) → judge b view (length given) area ≡ v → length (after .handed) ≤ area
-  unfolding obey unless
+  unfolding obey unlessNamed
   by-verdict (Refused number) e = rw e (omega arith)
   by-verdict (Faulty code at) e = rw e (omega arith)
   by-verdict Passed e = passed-fits e (obeyed b given area entry buffer image)
@@ -119,5 +119,6 @@ module _ (c : Controller) (block given area : List ℕ) (images : List (List ℕ
       length-splice 0 _ area (omega (arith, h))
 
   pub area-keeps : length (execute c block given area images .area) ≡ length area
-  unfolding execute
-  area-keeps = pick-both (λ (r : Result). length (r .area) ≡ length area) (eqb (length block) 6) _ _ drive-keeps refl
+  area-keeps =
+      by-block c block given area images (λ (r : Result). length (r .area) ≡ length area)
+      (λ whole copy. ap length (copy-leaves c block area images copy .untouched)) (λ whole other. drive-keeps) (λ none. refl)

@@ -16,7 +16,7 @@ use Rattle.geometry.specs.declared.config.Setting.the-variants.{Invalid}
 use Rattle.geometry.specs.Medium.{mediumOf, isIn, rangesOf}
 use Rattle.geometry.specs.Config.{fieldsIn, settingBy, settingOf, labelSetting}
 use Rattle.model.specs.declared.record.Controller.{Controller}
-use Rattle.model.specs.Block.{blockOf}
+use Rattle.model.specs.Block.{blockOf, blockLength}
 use Rattle.model.specs.Engine.{imageOf}
 use Rattle.model.specs.Machine.{Machine}
 use Rattle.model.specs.Claim.{System, Reset, Command, called, replied}
@@ -52,11 +52,13 @@ module _ (c : Controller) (area : List ℕ) (images : List (List ℕ)) (w : Whol
   frame-whole : (frame : List ℕ) → WholeSaid (frameSaid c frame area images)
   unfolding WholeSaid frameSaid resultSaid called replied
   frame-whole frame =
-      let entry = w .agrees .drives (blockOf (take 6 frame) .drive) (drive-below (take 6 frame)) in
+      let block = take (blockLength frame) frame in
+      let given = drop (blockLength frame) frame in
+      let entry = w .agrees .drives (blockOf block .drive) (drive-below block) in
       record {
-        long = area-keeps c (take 6 frame) (drop 6 frame) area images (entry .whole) (entry .four) ∙ w .long;
+        long = area-keeps c block given area images (entry .whole) (entry .four) ∙ w .long;
         machine = _;
-        agrees = call-answered system (Command (take 6 frame) (drop 6 frame) area) (w .machine) (w .agrees) .agree;
+        agrees = call-answered system (Command block given area) (w .machine) (w .agrees) .agree;
       }
 
   line-whole : (line : Option (List ℕ)) → WholeSaid (lineSaid c line area images)

@@ -10,6 +10,7 @@ use Rattle.base.specs.Pick.{pick}
 use Rattle.base.specs.Part.{splice}
 use Rattle.model.specs.declared.record.Answer.{Answer}
 use Rattle.model.specs.declared.record.Controller.{Controller}
+use Rattle.model.specs.Block.{blockLength}
 use Rattle.model.specs.Record.{bareAnswer}
 use Rattle.model.specs.Engine.{Result, execute, resetOf}
 use Rattle.hex.specs.Hex.{encoded}
@@ -50,9 +51,10 @@ resultSaid result = record {
   images = result .images;
 }
 
--- The first six bytes are the block, the rest data.
+-- The first six bytes are the block, of a frame that begins with 20h the first ten (request E5), the rest data.
 unfoldable pub frameSaid : Controller → (frame area : List ℕ) → (images : List (List ℕ)) → Said
-frameSaid c frame area images = resultSaid (execute c (take 6 frame) (drop 6 frame) area images)
+frameSaid c frame area images =
+    resultSaid (execute c (take (blockLength frame) frame) (drop (blockLength frame) frame) area images)
 
 unfoldable pub resetSaid : (area : List ℕ) → (images : List (List ℕ)) → Said
 resetSaid area images =

@@ -1,4 +1,5 @@
 // One line of the program frames: a frame, Reset or bad hex, and the line of hex digits that answers it.
+use checks::block::block_length;
 use engine::reset::reset;
 use engine::run::execute;
 use hex::line::Line;
@@ -14,9 +15,6 @@ ghost use Rattle.hex.specs.Line.{lineNow, wholeOf};
 ghost use Rattle.lines.specs.Said.{answerText, badText, resetText, isReset, Says, frameSaid, lineSaid};
 
 const LINE_FEED: u8 = 0x0A;
-
-// Bytes of a block, at the front of a frame.
-const BLOCK_LENGTH: usize = 6;
 
 // The controller after a line, and the length of the text that answers it.
 pub struct Told {
@@ -54,7 +52,7 @@ fn least(a: usize, b: usize) -> usize
     if a < b { a } else { b }
 }
 
-// A frame: the first six bytes are the block, the rest data.
+// A frame: the block, as long as its first byte says, and the rest data.
 fn answer_frame(
     c: Controller,
     frame: &[u8],
@@ -72,7 +70,7 @@ fn answer_frame(
         (imagesOf (now (image0 .exit)) (now (image1 .exit)) (now (image2 .exit)) (now (image3 .exit))) ⌝ }
 {
     let end = frame.len();
-    let n = least(BLOCK_LENGTH, end);
+    let n = least(block_length(frame), end);
     let outcome = execute(
         c,
         &frame[0..n],

@@ -17,5 +17,6 @@ pub mod WholeDrive
 pub mod Transfers
 pub mod Restarted
 pub mod Obeyed
+pub mod Copied
 pub mod Called
 pub mod Claimed

@@ -7,3 +7,6 @@ pub mod Written
 pub mod Leaving
 pub mod Beyond
 pub mod Assembled
+pub mod Blocks
+pub mod Copies
+pub mod CopyLeaves

@@ -11,15 +11,18 @@ use Rattle.geometry.specs.declared.config.Setting.the-variants.{Valid, Invalid}
 use Rattle.geometry.specs.Params.{trackOf, lastAddress}
 use Rattle.geometry.specs.Medium.{isFloppy}
 use Rattle.geometry.specs.Config.{isValid}
+use Rattle.copying.specs.Listwise.{filledBy}
 use Rattle.model.specs.declared.block.Block.{Block}
+use Rattle.model.specs.declared.block.CopyBlock.{CopyBlock}
 use Rattle.model.specs.declared.table.Command.{Command}
-use Rattle.model.specs.declared.table.Command.the-variants.{Free, OnDisk, Unknown}
+use Rattle.model.specs.declared.table.Command.the-variants.{Free, OnDisk, Copy, Unknown}
 use Rattle.model.specs.declared.table.Data.{Data}
 use Rattle.model.specs.declared.table.Data.the-variants.{Nothing, Sense, Alternate, Configuration, Buffer, Sectors}
 use Rattle.model.specs.declared.verdict.View.{View}
 use Rattle.model.specs.declared.verdict.Hits.{Hits}
 use Rattle.model.specs.declared.verdict.Verdict.{Verdict}
 use Rattle.model.specs.declared.verdict.Verdict.the-variants.{Refused, Faulty, Passed}
+use Rattle.model.specs.declared.verdict.Judgement.{Judgement}
 use Rattle.model.specs.Block.{countOf}
 use Rattle.model.specs.Table.{HardOnly, Control, FillBit, Present, Parameters, Interleave, Address, Counted, Settled, SparedWhole, TableRow, applies, rowFor}
 
@@ -48,6 +51,7 @@ presentWith image = leb 16 image
 unfoldable pub isUnknown : Command → Bool
 isUnknown (Free command) = false
 isUnknown (OnDisk command) = false
+isUnknown Copy = false
 isUnknown Unknown = true
 
 -- Only control bit 7, without effect, and 5 where named are defined.
@@ -120,8 +124,40 @@ inOrder a hits =
     ∷ refuses (hits .small) 3
     ∷ []
 
+-- On one drive, where `reach` sectors from the address on must be there.
+abbrev pub judgeOver : Block → (reach : ℕ) → View → (given area : ℕ) → Verdict
+judgeOver b reach v given area = judged (inOrder (b .address) (hitsOf (rowFor (b .opcode)) b reach v given area))
+
 -- A command of a block of six bytes, up to its own checks.
 unfoldable pub judge : Block → View → (given area : ℕ) → Verdict
-judge b v given area =
-    let e = rowFor (b .opcode) in
-    judged (inOrder (b .address) (hitsOf e b (reachOf (applies Counted e) b) v given area))
+judge b v given area = judgeOver b (reachOf (applies Counted (rowFor (b .opcode))) b) v given area
+
+-- ---- Copy (request E5): the same row of checks for the source, then for the destination, then 22h where both share a sector.
+-- The sectors that n source sectors fill, the last perhaps in part. Without parameters 0Ah comes first.
+unfoldable pub fillingOf : (n : ℕ) → (from to : Setting) → ℕ
+fillingOf n Invalid to = 0
+fillingOf n (Valid p) Invalid = 0
+fillingOf n (Valid p) (Valid q) = filledBy n (p .size) (q .size)
+
+-- One drive, and an address that is among n of the source's and m of the destination's.
+unfoldable pub shares : CopyBlock → (n m : ℕ) → Bool
+shares k n m =
+    eqb (k .from .drive) (k .to .drive)
+    && (ltb (k .from .address .0) (k .to .address .0 + m) && ltb (k .to .address .0) (k .from .address .0 + n))
+
+-- What is said first, of the drive that it is said of.
+unfoldable pub sayingOf : Verdict → Judgement → Judgement → Judgement
+sayingOf (Refused number) first second = first
+sayingOf (Faulty code at) first second = first
+sayingOf Passed first second = second
+
+abbrev pub firstOf : Judgement → Judgement → Judgement
+firstOf first second = sayingOf (first .verdict) first second
+
+unfoldable pub judgeCopy : CopyBlock → (from to : View) → Judgement
+judgeCopy k v w =
+    let n = countOf (k .from) in
+    let m = fillingOf n (v .setting) (w .setting) in
+    firstOf (record { named = k .from .drive; verdict = judgeOver (k .from) n v 0 0 })
+    (firstOf (record { named = k .to .drive; verdict = judgeOver (k .to) m w 0 0 })
+    (record { named = k .from .drive; verdict = judged (on (shares k n m) 0x22 (k .from .address) ∷ []) }))

@@ -28,7 +28,7 @@ use Rattle.formatter.specs.Check.{checkCode}
 use Rattle.sectors.specs.Transfer.{Transfer, begun, reading, writing}
 use Rattle.model.specs.declared.block.Block.{Block}
 use Rattle.model.specs.declared.table.Command.{Command}
-use Rattle.model.specs.declared.table.Command.the-variants.{Free, OnDisk, Unknown}
+use Rattle.model.specs.declared.table.Command.the-variants.{Free, OnDisk, Copy, Unknown}
 use Rattle.model.specs.declared.table.FreeCommand.{FreeCommand}
 use Rattle.model.specs.declared.table.FreeCommand.the-variants.{RequestSense, WriteBuffer, ReadBuffer, Initialize}
 use Rattle.model.specs.declared.table.DiskCommand.{DiskCommand}
@@ -193,4 +193,7 @@ carryOut b Invalid given entry buffer image (OnDisk command) =
     effect (failed (b .drive) (b .drive) 0x0A (b .address) 0 0 entry) buffer [] image
 carryOut b (Valid p) given entry buffer image (OnDisk command) = doDisk b p given entry buffer image command
 carryOut b setting given entry buffer image Unknown =
+    effect (failed (b .drive) (b .drive) 0x20 (b .address) 0 0 entry) buffer [] image
+-- Copy's block has ten bytes, and it is two drives' command: it does not come here.
+carryOut b setting given entry buffer image Copy =
     effect (failed (b .drive) (b .drive) 0x20 (b .address) 0 0 entry) buffer [] image

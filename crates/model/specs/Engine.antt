@@ -2,8 +2,7 @@
 use Prim.Native.Nat.{ℕ}
 use mathlib.Core.Bool.{true, false}
 use mathlib.Core.List.{List, [], _∷_}
-use lib.ListN.{length, getD, set, replicate}
-use lib.Dec.{eqb}
+use lib.ListN.{length, set, replicate}
 use Rattle.base.specs.Pick.{pick}
 use Rattle.geometry.specs.declared.medium.Medium.{Medium}
 use Rattle.geometry.specs.declared.config.Setting.{Setting}
@@ -11,15 +10,20 @@ use Rattle.geometry.specs.declared.config.Setting.the-variants.{Valid, Invalid}
 use Rattle.geometry.specs.Medium.{mediumOf}
 use Rattle.geometry.specs.Config.{labelConfig, labelSetting}
 use Rattle.model.specs.declared.block.Block.{Block}
+use Rattle.model.specs.declared.block.CopyBlock.{CopyBlock}
 use Rattle.model.specs.declared.record.Drive.{Drive}
 use Rattle.model.specs.declared.record.Controller.{Controller}
 use Rattle.model.specs.declared.record.Outcome.{Outcome}
-use Rattle.model.specs.Block.{blockOf}
+use Rattle.model.specs.Block.{blockOf, isCopy, isWhole, copyOf}
 use Rattle.model.specs.Table.{rowFor}
 use Rattle.model.specs.declared.verdict.View.{View}
-use Rattle.model.specs.Checks.{presentWith, judge}
-use Rattle.model.specs.Record.{blankDrive, driveAt, settingIn, bareAnswer, Effect, effect, areaAfter, unless}
+use Rattle.model.specs.Checks.{presentWith, judge, judgeCopy}
+use Rattle.model.specs.Record.{blankDrive, driveAt, settingIn, bareAnswer, Effect, effect, areaAfter, unless, unlessNamed}
 use Rattle.model.specs.Commands.{carryOut}
+use Rattle.model.specs.Copies.{CopyEffect, copyEffect, copyWith}
+-- the images lent, as a list: two hard disks, then two floppies
+pub use Rattle.copying.specs.Images.{imagesOf}
+unfoldable pub use Rattle.copying.specs.Images.{imageOf}
 
 -- ---- A command of six bytes on the image of the drive that it names
 unfoldable pub viewOf : Medium → Drive → (image : ℕ) → View
@@ -33,19 +37,20 @@ obey b given area entry buffer image =
     unless (judge b view (length given) area) (b .drive) entry (λ e. effect e buffer [] image)
     (carryOut b (view .setting) given entry buffer image (rowFor (b .opcode) .command))
 
+-- ---- Copy, on the images of the two drives that it names; of their entries it leaves the source's
+unfoldable pub obeyCopy : CopyBlock → (source target : Drive) → (buffer : List ℕ) → (images : List (List ℕ)) → CopyEffect
+obeyCopy k source target buffer images =
+    let v = viewOf (mediumOf (k .from .drive)) source (length (imageOf (k .from .drive) images)) in
+    let w = viewOf (mediumOf (k .to .drive)) target (length (imageOf (k .to .drive) images)) in
+    let said = judgeCopy k v w in
+    unlessNamed (said .verdict) (k .from .drive) (said .named) source (λ e. copyEffect e buffer images)
+    (copyWith k (v .setting) (w .setting) source buffer images)
+
 -- ---- All that a call leaves
 pub record Result : Type 0 where
   pub outcome : Outcome
   pub area : List ℕ
   pub images : List (List ℕ)
-
--- The images lent, by the numbers of their drives: two hard disks, then two floppies.
-abbrev pub imagesOf : (image0 image1 image2 image3 : List ℕ) → List (List ℕ)
-imagesOf image0 image1 image2 image3 = image0 ∷ image1 ∷ image2 ∷ image3 ∷ []
-
--- A drive for which no image is lent has one of no bytes, so that it is absent.
-unfoldable pub imageOf : (drive : ℕ) → (images : List (List ℕ)) → List ℕ
-imageOf drive images = getD images drive []
 
 -- The record and the images are put together: the entry and the image of every other drive stay.
 unfoldable pub left : (drive : ℕ) → Effect → Controller → (area : List ℕ) → (images : List (List ℕ)) → Result
@@ -63,11 +68,26 @@ unfoldable pub onDrive : Block → (given : List ℕ) → Controller → (area :
 onDrive b given c area images =
     left (b .drive) (obey b given (length area) (driveAt c (b .drive)) (c .buffer) (imageOf (b .drive) images)) c area images
 
--- A block that is not six bytes: number 1, all unchanged.
+-- Copy: the source drive's entry and the destination drive's image change, the data area does not.
+unfoldable pub leftByCopy : (drive : ℕ) → CopyEffect → Controller → (area : List ℕ) → Result
+leftByCopy drive e c area = record {
+  outcome = record {
+    controller = record { buffer = e .buffer; drives = set (c .drives) drive (e .ending .entry) };
+    answer = e .ending .answer;
+  };
+  area = area;
+  images = e .images;
+}
+
+unfoldable pub onDrives : CopyBlock → Controller → (area : List ℕ) → (images : List (List ℕ)) → Result
+onDrives k c area images =
+    leftByCopy (k .from .drive) (obeyCopy k (driveAt c (k .from .drive)) (driveAt c (k .to .drive)) (c .buffer) images) c area
+
+-- A block that is not whole: number 1, all unchanged.
 unfoldable pub execute : Controller → (block given area : List ℕ) → (images : List (List ℕ)) → Result
 execute c block given area images =
-    pick (eqb (length block) 6)
-    (onDrive (blockOf block) given c area images)
+    pick (isWhole block)
+    (pick (isCopy block) (onDrives (copyOf block) c area images) (onDrive (blockOf block) given c area images))
     (record { outcome = record { controller = c; answer = bareAnswer 1 }; area = area; images = images })
 
 -- ---- Reset: the buffer and all sixteen sense bytes are zero. A valid label comes into force, not pending; otherwise the

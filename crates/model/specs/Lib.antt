@@ -4,6 +4,7 @@ pub mod Checks
 pub mod Sense
 pub mod Record
 pub mod Commands
+pub mod Copies
 pub mod Engine
 pub mod Premises
 pub mod Records

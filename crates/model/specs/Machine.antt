@@ -1,9 +1,9 @@
 -- Document 01, 'The plain machine': no image, no slot, no byte of a label.
 --
 -- With the engine it shares what the paper shares: which drives are floppies, validity and geometry of a configuration,
--- presence of a drive, a block's fields, the table and the order of checks with the lengths of data, the layout of sense bytes,
--- sameness of bytes. All else is written out here.
-use Prim.Native.Nat.{ℕ, zero, suc, _+_, _*_}
+-- presence of a drive, a block's length and fields, the table and the order of checks with the lengths of data and the sectors
+-- that a Copy fills, the layout of sense bytes, sameness of bytes. All else is written out here.
+use Prim.Native.Nat.{ℕ, zero, suc, _+_, _-_, _*_, _/_, _%_}
 use mathlib.Core.Bool.{Bool, true, false, not, _&&_, _||_}
 use mathlib.Core.Option.{Option, none, some}
 use mathlib.Core.List.{List, [], _∷_, _++_}
@@ -19,12 +19,13 @@ use Rattle.geometry.specs.declared.medium.Medium.{Medium}
 use Rattle.geometry.specs.declared.medium.Medium.the-variants.{HardDisk, Floppy}
 use Rattle.geometry.specs.declared.config.Setting.{Setting}
 use Rattle.geometry.specs.declared.config.Setting.the-variants.{Valid, Invalid}
-use Rattle.geometry.specs.Params.{trackCount, trackOf, next, track}
+use Rattle.geometry.specs.Params.{trackCount, trackOf, next, further, track}
 use Rattle.geometry.specs.Medium.{mediumOf}
 use Rattle.geometry.specs.Config.{settingOf}
 use Rattle.model.specs.declared.block.Block.{Block}
+use Rattle.model.specs.declared.block.CopyBlock.{CopyBlock}
 use Rattle.model.specs.declared.table.Command.{Command}
-use Rattle.model.specs.declared.table.Command.the-variants.{Free, OnDisk, Unknown}
+use Rattle.model.specs.declared.table.Command.the-variants.{Free, OnDisk, Copy, Unknown}
 use Rattle.model.specs.declared.table.FreeCommand.{FreeCommand}
 use Rattle.model.specs.declared.table.FreeCommand.the-variants.{RequestSense, WriteBuffer, ReadBuffer, Initialize}
 use Rattle.model.specs.declared.table.DiskCommand.{DiskCommand}
@@ -37,10 +38,10 @@ use Rattle.model.specs.declared.table.SectorCommand.{SectorCommand}
 use Rattle.model.specs.declared.table.SectorCommand.the-variants.{Read, Write}
 use Rattle.model.specs.declared.verdict.Verdict.{Verdict}
 use Rattle.model.specs.declared.verdict.Verdict.the-variants.{Refused, Faulty, Passed}
-use Rattle.model.specs.Block.{blockOf, countOf, fromBuffer}
+use Rattle.model.specs.Block.{blockOf, isCopy, isWhole, copyOf, countOf, fromBuffer}
 use Rattle.model.specs.Table.{rowFor}
 use Rattle.model.specs.declared.verdict.View.{View}
-use Rattle.model.specs.Checks.{Test, on, judged, presentWith, judge}
+use Rattle.model.specs.Checks.{Test, on, judged, presentWith, judge, judgeCopy}
 use Rattle.model.specs.Sense.{senseOf}
 use Rattle.model.specs.Feed.{Feed, reset, command, Reply, bare}
 
@@ -130,12 +131,15 @@ storing at sector u = record {
   held = λ a. pick (eqb (a .0) (at .0)) sector (u .held a);
 }
 
--- ---- How a call ends: a reply, and the machine after it
-unfoldable pub failing : Block → (code : ℕ) → Lba → (sectors : ℕ) → (handed : List ℕ) → Machine → Reply × Machine
-failing b code at sectors handed m = (
+-- ---- How a call ends: a reply, and the machine after it. The sense bytes name a drive, of a command of one drive that drive.
+unfoldable pub failingOn : (named : ℕ) → Block → (code : ℕ) → Lba → (sectors : ℕ) → (handed : List ℕ) → Machine → Reply × Machine
+failingOn named b code at sectors handed m = (
   record { number = 0; status = 2 + 32 * b .drive; message = 0; sectors = sectors; bytes = length handed; handed = handed },
-  withSense (b .drive) (senseOf code (b .drive) at) m,
+  withSense (b .drive) (senseOf code named at) m,
 )
+
+abbrev pub failing : Block → (code : ℕ) → Lba → (sectors : ℕ) → (handed : List ℕ) → Machine → Reply × Machine
+failing b code at sectors handed m = failingOn (b .drive) b code at sectors handed m
 
 unfoldable pub well : Block → (sectors : ℕ) → (handed : List ℕ) → Machine → Reply × Machine
 well b sectors handed m = (
@@ -143,10 +147,13 @@ well b sectors handed m = (
   withSense (b .drive) (senseOf 0 (b .drive) (record { 0 = 0 })) m,
 )
 
-unfoldable pub providing : Verdict → Block → Machine → Reply × Machine → Reply × Machine
-providing (Refused number) b m after = (bare number, m)
-providing (Faulty code at) b m after = failing b code at 0 [] m
-providing Passed b m after = after
+unfoldable pub providingOn : (named : ℕ) → Verdict → Block → Machine → Reply × Machine → Reply × Machine
+providingOn named (Refused number) b m after = (bare number, m)
+providingOn named (Faulty code at) b m after = failingOn named b code at 0 [] m
+providingOn named Passed b m after = after
+
+abbrev pub providing : Verdict → Block → Machine → Reply × Machine → Reply × Machine
+providing verdict b m after = providingOn (b .drive) verdict b m after
 
 -- ---- Own checks read the track states
 unfoldable pub isBad : Kind → Bool
@@ -370,6 +377,8 @@ carried b setting given m u (Free w) = freely b given m u w
 carried b Invalid given m u (OnDisk w) = failing b 0x0A (b .address) 0 [] m
 carried b (Valid p) given m u (OnDisk w) = withParameters b p given m u w
 carried b setting given m u Unknown = failing b 0x20 (b .address) 0 [] m
+-- Copy is two drives' command: it does not come here.
+carried b setting given m u Copy = failing b 0x20 (b .address) 0 [] m
 
 -- ---- The order of checks, then the command
 unfoldable pub settingWith : Medium → Option (List ℕ) → (len : ℕ) → Setting
@@ -385,6 +394,51 @@ ordered b given area m u =
     let view = seen (mediumOf (b .drive)) u in
     providing (judge b view (length given) area) b m (carried b (view .setting) given m u (rowFor (b .opcode) .command))
 
+-- ---- Copy (request E5): bytes run on from the source's sectors into the destination's
+unfoldable pub hasPassed : Verdict → Bool
+hasPassed (Refused number) = false
+hasPassed (Faulty code at) = false
+hasPassed Passed = true
+
+-- As many sectors as the bytes read fill; where all are read, one more for a rest.
+unfoldable pub sectorsFilled : (all : Bool) → (bytes size : ℕ) → ℕ
+sectorsFilled all bytes size = pick all ((bytes + (size - 1)) / size) (bytes / size)
+
+-- The source's sectors are read; then what was read, completed with zeros, is written.
+unfoldable pub poured : Params → Lba → Passage → Disk → Passage
+poured q b r v =
+    let bytes = inARow (r .sectors) in
+    writeFrom q (sectorsFilled (hasPassed (r .end)) (length bytes) (q .size)) b (bytes ++ replicate (q .size) 0) v
+
+-- A destination sector has its bytes before the source goes on: its fault comes first, then the source's, then 23h for a rest.
+unfoldable pub copyEnds : CopyBlock → (end read : Verdict) → (rest done : ℕ) → Machine → Reply × Machine
+copyEnds k (Refused number) read rest done m = (bare number, m)
+copyEnds k (Faulty code at) read rest done m = failingOn (k .to .drive) (k .from) code at done [] m
+copyEnds k Passed (Refused number) rest done m = (bare number, m)
+copyEnds k Passed (Faulty code at) rest done m = failing (k .from) code at done [] m
+copyEnds k Passed Passed zero done m = well (k .from) done [] m
+copyEnds k Passed Passed (suc rest) done m =
+    failingOn (k .to .drive) (k .from) 0x23 (further (k .to .address) (done - 1)) done [] m
+
+unfoldable pub copyOver : CopyBlock → (p q : Params) → Machine → Reply × Machine
+copyOver k p q m =
+    let r = readFrom p (countOf (k .from)) (k .from .address) (m .disks (k .from .drive)) in
+    let w = poured q (k .to .address) r (m .disks (k .to .drive)) in
+    copyEnds k (w .end) (r .end) (length (inARow (r .sectors)) % q .size) (length (w .sectors))
+    (withDisk (k .to .drive) (w .disk) (withBuffer (leaving (w .sectors) (m .buffer)) m))
+
+unfoldable pub copyBy : CopyBlock → (from to : Setting) → Machine → Reply × Machine
+copyBy k Invalid to m = failing (k .from) 0x0A (k .from .address) 0 [] m
+copyBy k (Valid p) Invalid m = failingOn (k .to .drive) (k .from) 0x0A (k .to .address) 0 [] m
+copyBy k (Valid p) (Valid q) m = copyOver k p q m
+
+unfoldable pub orderedCopy : CopyBlock → Machine → Reply × Machine
+orderedCopy k m =
+    let v = seen (mediumOf (k .from .drive)) (m .disks (k .from .drive)) in
+    let w = seen (mediumOf (k .to .drive)) (m .disks (k .to .drive)) in
+    let said = judgeCopy k v w in
+    providingOn (said .named) (said .verdict) (k .from) m (copyBy k (v .setting) (w .setting) m)
+
 -- ---- Reset drops pending and returns to the stored configuration, map unchanged; buffer and senses are zero.
 unfoldable pub restored : Disk → Disk
 restored u = inForce (u .stored) false u
@@ -393,4 +447,6 @@ restored u = inForce (u .stored) false u
 unfoldable pub step : Machine → Feed → Reply × Machine
 step m reset = (bare 0, record { buffer = replicate 512 0; senses = λ d. replicate 4 0; disks = λ d. restored (m .disks d) })
 step m (command block given area) =
-    pick (eqb (length block) 6) (ordered (blockOf block) given area m (m .disks (blockOf block .drive))) (bare 1, m)
+    pick (isWhole block)
+    (pick (isCopy block) (orderedCopy (copyOf block) m) (ordered (blockOf block) given area m (m .disks (blockOf block .drive))))
+    (bare 1, m)

@@ -4,8 +4,11 @@ use mathlib.Core.List.{List}
 use Rattle.geometry.specs.declared.params.Params.{Params}
 use Rattle.geometry.specs.Params.{trackCount, trackOf, addressCount}
 use Rattle.track.specs.Image.{Fits}
+use Rattle.copying.specs.Listwise.{filledBy, Fitting}
 use Rattle.model.specs.declared.block.Block.{Block}
+use Rattle.model.specs.declared.block.CopyBlock.{CopyBlock}
 use Rattle.model.specs.Block.{countOf}
+use Rattle.model.specs.Copies.{routeOf}
 
 -- An address has 21 bits.
 abbrev pub addressLimit : ℕ
@@ -29,3 +32,10 @@ pub record OnSectors (b : Block) (p : Params) (image : List ℕ) (room : ℕ) : 
   pub block : WellFormed b
   pub inside : b .address .0 + countOf b ≤ addressCount p
   pub enough : countOf b * p .size ≤ room
+
+-- A Copy over two ranges that lie on their drives and apart; it fills no more than 1,024 sectors.
+pub record OnDrives (k : CopyBlock) (p q : Params) (images : List (List ℕ)) : Type 0 where
+  pub from : WellFormed (k .from)
+  pub to : WellFormed (k .to)
+  pub fitting : Fitting (routeOf k p q) (countOf (k .from)) images
+  pub few : filledBy (countOf (k .from)) (p .size) (q .size) ≤ 1024

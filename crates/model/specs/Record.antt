@@ -58,11 +58,15 @@ unfoldable pub good : (drive sectors bytes : ℕ) → Drive → Ending
 good drive sectors bytes entry =
     record { entry = sensed (senseOf 0 drive (record { 0 = 0 })) entry; answer = goodAnswer drive sectors bytes }
 
--- By a verdict: what the command leaves where all is passed; else all but entry and answer as it was.
-unfoldable pub unless {ℓ} : {A : Type ℓ} → Verdict → (drive : ℕ) → Drive → (kept : Ending → A) → A → A
-unless (Refused number) drive entry kept after = kept (refused number entry)
-unless (Faulty code at) drive entry kept after = kept (failed drive drive code at 0 0 entry)
-unless Passed drive entry kept after = after
+-- By a verdict on drive `named`: what the command leaves where all is passed; else all but entry and answer as it was.
+unfoldable pub unlessNamed {ℓ} : {A : Type ℓ} → Verdict → (drive named : ℕ) → Drive → (kept : Ending → A) → A → A
+unlessNamed (Refused number) drive named entry kept after = kept (refused number entry)
+unlessNamed (Faulty code at) drive named entry kept after = kept (failed drive named code at 0 0 entry)
+unlessNamed Passed drive named entry kept after = after
+
+-- The verdict on a command of one drive names that drive.
+abbrev pub unless {ℓ} : {A : Type ℓ} → Verdict → (drive : ℕ) → Drive → (kept : Ending → A) → A → A
+unless verdict drive entry kept after = unlessNamed verdict drive drive entry kept after
 
 -- ---- What a command leaves of what it is lent: its drive's entry with the answer, the buffer, its drive's image; and the
 -- bytes handed over.

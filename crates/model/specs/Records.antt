@@ -1,12 +1,14 @@
 -- No other record changes. Whatever the controller, the block, the data and the images, damaged or not: an address that a
--- command does not name reads after it as it did before; and an address that a Write counts as done reads as the data given.
+-- command does not name reads after it as it did before; an address that a Write counts as done reads as the data given, and
+-- one that a Copy counts as done as the bytes that ran into it.
 -- Reset is lent the images for reading only, so that it can change none.
 use Prim.Native.Nat.{ℕ, _+_, _*_, _≤_, _<_}
 use mathlib.Core.Path.{_≡_}
 use mathlib.Core.Bool.{Bool, true, false, _&&_, _||_}
-use mathlib.Core.List.{List}
-use lib.ListN.{length}
+use mathlib.Core.List.{List, _++_}
+use lib.ListN.{length, getD, replicate}
 use lib.Dec.{leb, ltb, eqb}
+use Rattle.base.specs.Pick.{pick}
 use Rattle.base.specs.Part.{part}
 use Rattle.geometry.specs.declared.params.Lba.{Lba}
 use Rattle.geometry.specs.declared.params.Track.{Track}
@@ -15,11 +17,12 @@ use Rattle.geometry.specs.declared.config.Setting.the-variants.{Valid, Invalid}
 use Rattle.geometry.specs.Params.{OnDrive, imageLength, trackOf, further}
 use Rattle.geometry.specs.Medium.{mediumOf}
 use Rattle.track.specs.declared.find.Sector.the-variants.{Slot}
-use Rattle.sectors.specs.Transfer.{found}
+use Rattle.sectors.specs.Transfer.{begun, found, reading}
 use Rattle.contents.specs.Content.{Bytes, contentOf}
 use Rattle.model.specs.declared.block.Block.{Block}
+use Rattle.model.specs.declared.block.CopyBlock.{CopyBlock}
 use Rattle.model.specs.declared.table.Command.{Command}
-use Rattle.model.specs.declared.table.Command.the-variants.{Free, OnDisk, Unknown}
+use Rattle.model.specs.declared.table.Command.the-variants.{Free, OnDisk, Copy, Unknown}
 use Rattle.model.specs.declared.table.FreeCommand.the-variants.{Initialize}
 use Rattle.model.specs.declared.table.DiskCommand.the-variants.{ArmWork, TrackWork, SectorWork}
 use Rattle.model.specs.declared.table.TrackCommand.{TrackCommand}
@@ -27,7 +30,7 @@ use Rattle.model.specs.declared.table.TrackCommand.the-variants.{FormatD
 use Rattle.model.specs.declared.table.SectorCommand.the-variants.{Read, Write}
 use Rattle.model.specs.declared.record.Controller.{Controller}
 use Rattle.model.specs.declared.record.Answer.{Answer}
-use Rattle.model.specs.Block.{blockOf, countOf, alternateOf}
+use Rattle.model.specs.Block.{blockOf, isCopy, isWhole, copyOf, countOf, alternateOf}
 use Rattle.model.specs.Table.{rowFor}
 use Rattle.model.specs.Record.{driveAt, settingIn}
 use Rattle.model.specs.Engine.{imageOf, execute}
@@ -58,13 +61,18 @@ namedBy d p b given r a (OnDisk (SectorWork Read)) = false
 namedBy d p b given r a (OnDisk (TrackWork command)) = eqb (b .drive) d && (isGood (b .drive) r && onTracks p b given a command)
 namedBy d p b given r a (OnDisk (ArmWork command)) = false
 namedBy d p b given r a (Free command) = false
+namedBy d p b given r a Copy = false
 namedBy d p b given r a Unknown = false
 
--- None by a block that is not six bytes.
+-- By Copy the destination sectors done.
+unfoldable pub namedByCopy : (d : ℕ) → CopyBlock → Answer → Lba → Bool
+namedByCopy d k r a = eqb (k .to .drive) d && (leb (k .to .address .0) (a .0) && ltb (a .0) (k .to .address .0 + r .sectors))
+
+-- None by a block that is not whole.
 unfoldable pub named : (d : ℕ) → Params → (block given : List ℕ) → Answer → Lba → Bool
 named d p block given r a =
     let b = blockOf block in
-    eqb (length block) 6 && namedBy d p b given r a (rowFor (b .opcode) .command)
+    isWhole block && pick (isCopy block) (namedByCopy d (copyOf block) r a) (namedBy d p b given r a (rowFor (b .opcode) .command))
 
 -- ---- What it does not name reads as before. p: the parameters in force on drive d before the call.
 unfoldable pub NoOtherRecord : Type 0
@@ -103,6 +111,49 @@ GoodWrites =
     isGood (b .drive) (r .outcome .answer) ≡ true
     → (p : Params) × (settingIn (mediumOf (b .drive)) (driveAt c (b .drive)) (length (imageOf (b .drive) images)) ≡ Valid p)
     × (r .outcome .answer .sectors ≡ countOf b)
+
+-- ---- What a Copy counts as done reads as the bytes that a Read of its source handed over before it, run on, with zeros behind them.
+unfoldable pub CopiedReads : Type 0
+CopiedReads =
+    (c : Controller) (block given area : List ℕ) (images : List (List ℕ)) (p q : Params)
+    → let k = copyOf block in
+    isWhole block ≡ true → isCopy block ≡ true
+    → settingIn (mediumOf (k .from .drive)) (driveAt c (k .from .drive)) (length (imageOf (k .from .drive) images)) ≡ Valid p
+    → settingIn (mediumOf (k .to .drive)) (driveAt c (k .to .drive)) (length (imageOf (k .to .drive) images)) ≡ Valid q
+    → let r = execute c block given area images in
+    let source = reading p (countOf (k .from)) (k .from .address) (begun (imageOf (k .from .drive) images)) .handed in
+    (i : ℕ) → i < r .outcome .answer .sectors
+    → contentOf q (further (k .to .address) i) (imageOf (k .to .drive) (r .images))
+    ≡ Bytes (part (i * q .size) (q .size) (source ++ replicate (q .size) 0))
+
+-- A Copy with good status had parameters in force on both drives, and all its source's bytes are in the sectors done.
+unfoldable pub GoodCopies : Type 0
+GoodCopies =
+    (c : Controller) (block given area : List ℕ) (images : List (List ℕ))
+    → let k = copyOf block in
+    isWhole block ≡ true → isCopy block ≡ true
+    → let r = execute c block given area images in
+    isGood (k .from .drive) (r .outcome .answer) ≡ true
+    → (p : Params) × (q : Params)
+    × (settingIn (mediumOf (k .from .drive)) (driveAt c (k .from .drive)) (length (imageOf (k .from .drive) images)) ≡ Valid p)
+    × (settingIn (mediumOf (k .to .drive)) (driveAt c (k .to .drive)) (length (imageOf (k .to .drive) images)) ≡ Valid q)
+    × (reading p (countOf (k .from)) (k .from .address) (begun (imageOf (k .from .drive) images)) .done ≡ countOf (k .from))
+    × (r .outcome .answer .sectors * q .size ≡ countOf (k .from) * p .size)
+
+-- A Copy after which the source drive's sense has 23h (with an address, A3h): the same, but that the bytes end in the last sector done.
+unfoldable pub ShortCopies : Type 0
+ShortCopies =
+    (c : Controller) (block given area : List ℕ) (images : List (List ℕ))
+    → let k = copyOf block in
+    isWhole block ≡ true → isCopy block ≡ true
+    → let r = execute c block given area images in
+    getD (driveAt (r .outcome .controller) (k .from .drive) .sense) 0 0 ≡ 0xA3
+    → (p : Params) × (q : Params)
+    × (settingIn (mediumOf (k .from .drive)) (driveAt c (k .from .drive)) (length (imageOf (k .from .drive) images)) ≡ Valid p)
+    × (settingIn (mediumOf (k .to .drive)) (driveAt c (k .to .drive)) (length (imageOf (k .to .drive) images)) ≡ Valid q)
+    × (reading p (countOf (k .from)) (k .from .address) (begun (imageOf (k .from .drive) images)) .done ≡ countOf (k .from))
+    × (countOf (k .from) * p .size < r .outcome .answer .sectors * q .size)
+    × (r .outcome .answer .sectors * q .size < countOf (k .from) * p .size + q .size)
 
 -- ---- Two addresses never share a slot, on any image.
 unfoldable pub SlotsApart : Type 0

@@ -5,7 +5,7 @@ use mathlib.Core.List.{List, [], _∷_}
 use lib.ListN.{getD}
 use lib.Dec.{eqb}
 use Rattle.model.specs.declared.table.Command.{Command}
-use Rattle.model.specs.declared.table.Command.the-variants.{Free, OnDisk, Unknown}
+use Rattle.model.specs.declared.table.Command.the-variants.{Free, OnDisk, Copy, Unknown}
 use Rattle.model.specs.declared.table.FreeCommand.the-variants.{RequestSense, WriteBuffer, ReadBuffer, Initialize}
 use Rattle.model.specs.declared.table.DiskCommand.the-variants.{ArmWork, TrackWork, SectorWork}
 use Rattle.model.specs.declared.table.ArmCommand.the-variants.{TestReady, Recalibrate, Seek}
@@ -92,6 +92,9 @@ table =
     ∷ row (Free WriteBuffer) [] Buffer Nothing
     ∷ row (Free ReadBuffer) [] Nothing Buffer
     ∷ row (Free Initialize) (Present ∷ []) Configuration Nothing
+    ∷ unknown ∷ unknown ∷ unknown ∷ unknown ∷ unknown ∷ unknown ∷ unknown
+    ∷ unknown ∷ unknown ∷ unknown ∷ unknown ∷ unknown ∷ unknown ∷ unknown
+    ∷ row Copy (Counted ∷ addressChecks) Nothing Nothing
     ∷ []
 
 unfoldable pub rowFor : (opcode : ℕ) → TableRow

@@ -1,4 +1,4 @@
-// The fields of a command's six bytes.
+// The fields of a command's bytes.
 use geometry::params::Lba;
 
 pub struct Block {
@@ -10,4 +10,10 @@ pub struct Block {
     // the interleave, or the count
     pub extra: u8,
     pub control: u8,
+}
+
+// Copy's source with the count and the control byte, and its destination.
+pub struct CopyBlock {
+    pub from: Block,
+    pub to: Block,
 }

@@ -4,6 +4,8 @@ pub enum Command {
     Free(FreeCommand),
     // parameters in force: else 0Ah
     OnDisk(DiskCommand),
+    // parameters in force on two drives
+    Copy,
     Unknown,
 }
 

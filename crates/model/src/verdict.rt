@@ -42,3 +42,9 @@ pub enum Verdict {
     Faulty(u8, Lba),
     Passed,
 }
+
+// What the checks of Copy say, and of which drive.
+pub struct Judgement {
+    pub named: u8,
+    pub verdict: Verdict,
+}

@@ -9,4 +9,6 @@ pub mod Readings
 pub mod ReadLoops
 pub mod WriteParts
 pub mod WriteLoops
+pub mod Lasts
+pub mod Takings
 pub mod Laws

@@ -1,7 +1,7 @@
 -- One sector read and written, by what is found.
 use mathlib.Core.Path.{_≡_, refl, sym, ap, _∙_}
 use mathlib.Core.List.{List}
-use Prim.Native.Nat.{ℕ, _+_, _-_, _*_, _<_}
+use Prim.Native.Nat.{ℕ, _+_, _-_, _*_, _≤_, _<_}
 use native.Mathlib.Omega.{arith}
 use native.Mathlib.Nat.{one-mul}
 use lib.ListN.{length, take, drop}
@@ -23,9 +23,9 @@ use Rattle.sectors.specs.Promises.{HasRead, HasWritten}
 use Rattle.sectors.proofs.Founds.{found-slot}
 use Rattle.sectors.proofs.ReadRun.{data-copied}
 
--- the bytes of one sector of one
-pub one-long : (n size len : ℕ) → n ≡ 1 → len ≡ n * size → len ≡ size
-one-long n size len en e = e ∙ rw en (one-mul size)
+-- room for n sectors is room for one, where n is 1
+pub one-room : (n size len : ℕ) → n ≡ 1 → n * size ≤ len → size ≤ len
+one-room n size len en h = let e : size ≡ n * size = rw en (sym (one-mul size)) in omega arith
 
 -- sector s of track t has address a, and r was found
 module _ (p : Params) (a : Lba) (image : List ℕ) (t : Track) (s : ℕ) (r : Sector) (et : t ≡ trackOf p a) (es : s ≡ sectorOf p a)

@@ -3,7 +3,7 @@ use mathlib.Core.Path.{_≡_, refl, sym, ap, _∙_}
 use mathlib.Core.List.{List}
 use Prim.Native.Nat.{ℕ, zero, suc, _+_, _-_, _*_, _≤_}
 use native.Mathlib.Omega.{arith}
-use native.Mathlib.Nat.{zero-mul, add-mul, add-zero, mul-le-mul-right}
+use native.Mathlib.Nat.{zero-add, zero-mul, one-mul, add-mul, add-zero, mul-le-mul-right}
 use lib.ListN.{length, take, drop}
 use lib.Dec.{ltb}
 use borrow.Rule.Slice.PartMut.{putMid}
@@ -22,6 +22,7 @@ use Rattle.sectors.specs.Run.{runDone, runRead}
 use Rattle.sectors.specs.Transfer.{Transfer, begun, ended, onward, reading}
 use Rattle.sectors.specs.declared.transfer.Done.{Done}
 use Rattle.sectors.specs.Promises.{ReadBy, HasRead}
+use Rattle.sectors.proofs.Ones.{one-room}
 use Rattle.sectors.proofs.Along.{Along, along-here, along-off}
 use Rattle.sectors.proofs.Readings.{Ahead, Handed, reading-ahead, reading-parts, reading-ended, reading-handed, reading-ran}
 
@@ -58,7 +59,7 @@ module _ (p : Params) (n : ℕ) (a : Lba) (image : List ℕ) (t : Track) (w : Wh
 
 -- ---- parts put one behind the other
 -- what is put at the front of a part lent is put at the part's place
-front-lent : (at size end : ℕ) (ys xs after : List ℕ) → end ≡ at + size → end ≤ length xs → length ys ≤ size
+pub front-lent : (at size end : ℕ) (ys xs after : List ℕ) → end ≡ at + size → end ≤ length xs → length ys ≤ size
     → after ≡ splice 0 ys (take (end - at) (drop at xs)) → putMid at (end - at) xs after ≡ splice at ys xs
 front-lent at size end ys xs after ee room few e =
     let is : after ≡ splice 0 ys (part at size xs) = e ∙ ap (splice 0 ys) (part-lent at end size xs (sym ee)) in
@@ -66,6 +67,18 @@ front-lent at size end ys xs after ee room few e =
     let la : length after ≡ size = ap length is ∙ length-splice 0 ys (part at size xs) (omega arith) ∙ lp in
     splice-lent at end xs after (omega arith) ∙ ap (λ (l : List ℕ). splice at l xs) is
     ∙ splice-splice at size 0 ys xs (omega arith) (omega arith) ∙ ap (λ (i : ℕ). splice i ys xs) (add-zero at)
+
+-- one sector alone, read to the front
+pub front-read : (p : Params) (n : ℕ) (a : Lba) (image area after : List ℕ) (done : Done) → Fits p image → a .0 + n ≤ addressCount p
+    → n * p .size ≤ length area → n ≡ 1 → HasRead p 1 a image done (take (p .size - 0) (drop 0 area)) after
+    → HasRead p n a image done area (putMid 0 (p .size - 0) area after)
+front-read p n a image area after done fits h h₀ en r =
+    let here = reading-handed p image fits 1 a (omega arith) in
+    let few : length (reading p 1 a (begun image) .handed) ≤ p .size =
+    omega (arith, here .long, mul-le-mul-right (p .size) (here .most), one-mul (p .size)) in
+    let put = front-lent 0 (p .size) (p .size) (reading p 1 a (begun image) .handed) area after (sym (zero-add (p .size)))
+    (one-room n (p .size) (length area) en h₀) few (r .area) in
+    rw en (record { sectors = r .sectors; code = r .code; area = put })
 
 -- a part read behind what was read before: `size` bytes lent at `at`
 read-on : (x y z : Transfer) (i at size end : ℕ) (done : Done) (area₀ area after : List ℕ) → Ahead (y .done) (y .handed) x z

@@ -3,7 +3,7 @@ use mathlib.Core.Path.{_≡_, refl, sym, ap, _∙_}
 use mathlib.Core.List.{List, [], _∷_}
 use Prim.Native.Nat.{ℕ, zero, suc, _+_, _-_, _*_, _≤_}
 use native.Mathlib.Omega.{arith}
-use native.Mathlib.Nat.{zero-mul, suc-mul, add-mul, mul-le-mul-right, add-zero, zero-add, suc-add}
+use native.Mathlib.Nat.{zero-mul, one-mul, suc-mul, add-mul, mul-le-mul-right, add-zero, zero-add, suc-add}
 use lib.ListN.{length, take, drop}
 use lib.Seq.{take-nil, take-take, drop-drop}
 use Rattle.geometry.specs.declared.params.Params.{Params}
@@ -18,7 +18,7 @@ use Rattle.sectors.proofs.Founds.{found-fault}
 use Rattle.sectors.proofs.Onwards.{onward-has, onward-both}
 
 -- ---- the next sector of what is given for some, and the rest
-drop-take : (n m : ℕ) (xs : List ℕ) → drop n (take (n + m) xs) ≡ take m (drop n xs)
+pub drop-take : (n m : ℕ) (xs : List ℕ) → drop n (take (n + m) xs) ≡ take m (drop n xs)
 drop-take zero m xs = ap (λ (k : ℕ). take k xs) (zero-add m)
 drop-take (suc n) m [] = ap (drop (suc n)) (take-nil (suc n + m)) ∙ sym (take-nil m)
 drop-take (suc n) m (x ∷ xs) = rw (suc-add n m) (drop-take n m xs)
@@ -53,6 +53,15 @@ beside p d (suc m) a given x y b =
     onward-both (Beside d) x y _ _ _ _ (ap (found p a) (b .image)) (λ code e. beside-ended d code x y b)
     (λ u k. rw (← next-same m (p .size) given, ← rest-same m (p .size) given)
     (beside p d m (next a) (drop (p .size) given) _ _ (beside-slot p d (take (p .size) given) x y u k b)))
+
+-- one sector alone, from the front of what is given
+pub front-written : (p : Params) (n : ℕ) (a : Lba) (given image after : List ℕ) (r : Done) → n ≡ 1
+    → HasWritten p 1 a (take (p .size - 0) (drop 0 given)) r image after → HasWritten p n a given r image after
+front-written p n a given image after r en w =
+    let wide : p .size - 0 ≡ 1 * p .size = omega (arith, one-mul (p .size)) in
+    let h : HasWritten p 1 a (take (1 * p .size) given) r image after = rw wide at w in
+    let b = beside p 0 1 a given (begun image) (begun image) (record { done = sym (zero-add (begun image .done)); code = refl; image = refl }) in
+    rw en (record { sectors = omega (arith, h .sectors, b .done); code = h .code ∙ sym (b .code); image = h .image ∙ sym (b .image) })
 
 -- ---- parts put together
 module _ (p : Params) (k : ℕ) where

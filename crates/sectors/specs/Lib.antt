@@ -1,3 +1,4 @@
 pub mod Transfer
 pub mod Promises
 pub mod Run
+pub mod Last

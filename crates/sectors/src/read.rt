@@ -49,9 +49,6 @@ fn read_part(image: &[u8], p: Params, a: Lba, n: usize, places: &mut [u8]) -> Do
     requires { ⌜ Fits p (now image) × OnDrive p a × (1 ≤ n) × (sectorOf p a + n ≤ p .sectors) × (length (now places) ≡ n * p .size) ⌝ }
     ensures { λ r. ⌜ HasRead p n a (now (image .entry)) r (now (places .entry)) (now (places .exit)) ⌝ }
 {
-    if n == 1 {
-        return read_one(image, p, a, places);
-    }
     let place = where_is(image, p, p.track_of(a));
     match place {
         Where::Off(code) => Done {
@@ -74,6 +71,9 @@ pub fn read_sectors(image: &[u8], p: Params, a: Lba, n: usize, area: &mut [u8]) 
     ensures { λ r. ⌜ HasRead p n a (now (image .entry)) r (now (area .entry)) (now (area .exit)) ⌝ }
 {
     let size = p.size;
+    if n == 1 {
+        return read_one(image, p, a, &mut area[0..size]);
+    }
     let mut i: usize = 0;
     let mut at: usize = 0;
     while i < n {

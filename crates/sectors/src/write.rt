@@ -46,9 +46,6 @@ fn write_part(image: &mut [u8], p: Params, a: Lba, n: usize, given: &[u8]) -> Do
     requires { ⌜ Fits p (now image) × OnDrive p a × (1 ≤ n) × (sectorOf p a + n ≤ p .sectors) × (length (now given) ≡ n * p .size) ⌝ }
     ensures { λ r. ⌜ HasWritten p n a (now (given .entry)) r (now (image .entry)) (now (image .exit)) ⌝ }
 {
-    if n == 1 {
-        return write_one(image, p, a, given);
-    }
     let place = where_is(image, p, p.track_of(a));
     match place {
         Where::Off(code) => Done {
@@ -71,6 +68,9 @@ pub fn write_sectors(image: &mut [u8], p: Params, a: Lba, n: usize, given: &[u8]
     ensures { λ r. ⌜ HasWritten p n a (now (given .entry)) r (now (image .entry)) (now (image .exit)) ⌝ }
 {
     let size = p.size;
+    if n == 1 {
+        return write_one(image, p, a, &given[0..size]);
+    }
     let mut i: usize = 0;
     let mut at: usize = 0;
     while i < n {

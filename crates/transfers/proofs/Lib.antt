@@ -1,4 +1,3 @@
-pub mod Lasts
 pub mod Finishes
 pub mod ReadEnds
 pub mod WriteEnds

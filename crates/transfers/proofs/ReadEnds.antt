@@ -20,8 +20,8 @@ use Rattle.model.specs.Block.{countOf}
 use Rattle.model.specs.Record.{Effect}
 use Rattle.model.specs.Commands.{transferEnding, read}
 use Rattle.endings.specs.Left.{leftNow, leftBy}
-use Rattle.transfers.specs.Last.{lastOf}
-use Rattle.transfers.proofs.Lasts.{last-front, last-is}
+use Rattle.sectors.specs.Last.{lastOf}
+use Rattle.sectors.proofs.Laws.{last-front, last-is}
 use Rattle.transfers.proofs.Finishes.{transfer-is}
 
 pub bytes-most : (k size : ℕ) → k ≤ 256 → size ≤ 512 → k * size ≤ 131072

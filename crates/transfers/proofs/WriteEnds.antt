@@ -1,69 +1,27 @@
 -- What Write leaves.
 use mathlib.Core.Path.{_≡_, refl, sym, ap, _∙_}
 use mathlib.Core.List.{List, []}
-use Prim.Native.Nat.{ℕ, zero, suc, _*_, _<_}
-use native.Mathlib.Omega.{arith}
-use native.Mathlib.Nat.{zero-mul, suc-mul}
-use lib.ListN.{length, take, drop}
-use lib.Seq.{drop-drop}
-use Rattle.base.specs.Part.{part, splice}
+use Prim.Native.Nat.{ℕ, _<_}
+use lib.ListN.{length}
+use Rattle.base.specs.Part.{splice}
 use Rattle.geometry.specs.declared.params.Params.{Params}
 use Rattle.geometry.specs.declared.params.Lba.{Lba}
-use Rattle.geometry.specs.declared.params.Track.{Track}
-use Rattle.geometry.specs.Params.{next}
-use Rattle.sectors.specs.Transfer.{Transfer, begun, ended, writeSlot, found, writing}
+use Rattle.sectors.specs.Transfer.{begun, writing}
 use Rattle.sectors.specs.declared.transfer.Done.{Done}
 use Rattle.sectors.specs.Promises.{HasWritten}
-use Rattle.track.proofs.Laws.{Code}
-use Rattle.sectors.proofs.Laws.{found-fault, onward-has}
+use Rattle.sectors.proofs.Laws.{Taken, writing-taken}
 use Rattle.model.specs.declared.block.Block.{Block}
 use Rattle.model.specs.declared.record.Drive.{Drive}
 use Rattle.model.specs.declared.record.Ending.{Ending}
 use Rattle.model.specs.Block.{countOf}
 use Rattle.model.specs.Commands.{transferEnding, transferred, write}
 use Rattle.model.specs.Record.{effect}
-use Rattle.transfers.specs.Last.{lastOf}
+use Rattle.sectors.specs.Last.{lastOf}
 use Rattle.transfers.proofs.Finishes.{transfer-is}
 
--- ---- nothing is handed over, and each sector is the next D bytes given
-record Taken (p : Params) (given : List ℕ) (x : Transfer) : Type 0 where
-  pub code : x .code < 0x80
-  pub none : x .handed ≡ []
-  pub last : x .last ≡ lastOf (x .done) (p .size) given
-
-module _ (p : Params) (given : List ℕ) where
-  taken-none : (image : List ℕ) → Taken p given (begun image)
-  unfolding begun lastOf
-  taken-none image = record { code = omega arith; none = refl; last = refl }
-
-  module _ (x : Transfer) (w : Taken p given x) where
-    taken-ended : (code : ℕ) → Code code → Taken p given (ended code x)
-    unfolding ended
-    taken-ended code h = record { code = h .1; none = w .none; last = w .last }
-
-    taken-slot : (u : Track) (k : ℕ) (rest : List ℕ) → rest ≡ drop (x .done * p .size) given → Taken p given (writeSlot p (take (p .size) rest) x u k)
-    unfolding writeSlot lastOf part
-    taken-slot u k rest e = record { code = omega arith; none = w .none; last = ap (take (p .size)) e }
-
-  taken-on : (m : ℕ) (a : Lba) (rest : List ℕ) (x : Transfer) → Taken p given x → rest ≡ drop (x .done * p .size) given
-      → Taken p given (writing p m a rest x)
-  unfolding writing writeSlot
-  taken-on zero a rest x w er = w
-  taken-on (suc m) a rest x w er =
-      onward-has (Taken p given) x _ (found p a (x .image))
-      (λ code e. taken-ended x w code (found-fault p a (x .image) code e))
-      (λ u k e.
-      let past : drop (p .size) rest ≡ drop (suc (x .done) * p .size) given =
-      ap (drop (p .size)) er ∙ drop-drop (p .size) (x .done * p .size) given ∙ rw suc-mul refl in
-      taken-on m (next a) (drop (p .size) rest) _ (taken-slot x w u k rest er) past)
-
-module _ (p : Params) (n : ℕ) (a : Lba) (given image₀ image : List ℕ) (done : Done) (w : HasWritten p n a given done image₀ image) where
-  has-taken : Taken p given (writing p n a given (begun image₀))
-  unfolding begun
-  has-taken = taken-on p given n a given (begun image₀) (taken-none p given image₀) (rw zero-mul refl)
-
-  pub write-code : done .code < 0x80
-  write-code = rw (w .code) (has-taken .code)
+pub write-code : (p : Params) (n : ℕ) (a : Lba) (given image₀ image : List ℕ) (done : Done) → HasWritten p n a given done image₀ image
+    → done .code < 0x80
+write-code p n a given image₀ image done w = rw (w .code) (writing-taken p n a given image₀ .code)
 
 -- ---- 0Ah Write
 module _ (b : Block) (p : Params) (entry : Drive) (given image₀ image before after : List ℕ) (n : ℕ) (done : Done) (r : Ending) where
@@ -73,7 +31,7 @@ module _ (b : Block) (p : Params) (entry : Drive) (given image₀ image before a
   unfolding write
   write-leaves en w ea er =
       let x = writing p n (b .address) given (begun image₀) in
-      let h = has-taken p n (b .address) given image₀ image done w in
+      let h = writing-taken p n (b .address) given image₀ in
       let none : 0 ≡ length (x .handed) = sym (ap length (h .none)) in
       let last : lastOf (done .sectors) (p .size) given ≡ x .last = rw (w .sectors) (sym (h .last)) in
       let is : effect r after (x .handed) (x .image) ≡ transferred b entry before x =

@@ -1,12 +1,12 @@
 // Read.
 use crate::transfer::finish;
-use crate::transfer::keep_last;
 use checks::block::count_of;
 use geometry::params::Params;
 use model::block::Block;
 use model::record::Drive;
 use model::record::Ending;
 use sectors::read::read_sectors;
+use sectors::transfer::keep_last;
 ghost use mathlib.Core.Path.{_≡_};
 ghost use lib.ListN.{length};
 ghost use Rattle.model.specs.Commands.{read};

@@ -1,5 +1,4 @@
-// What Read and Write share: the last sector to the buffer, and how a transfer ends.
-use base::bytes::put_front;
+// What Read and Write share: how a transfer ends.
 use endings::ending::failed;
 use endings::ending::good;
 use model::block::Block;
@@ -7,25 +6,9 @@ use model::record::Drive;
 use model::record::Ending;
 use sectors::transfer::Done;
 ghost use mathlib.Core.Path.{_≡_};
-ghost use Prim.Native.Nat.{_+_, _*_, _≤_, _<_};
-ghost use lib.ListN.{length};
-ghost use Rattle.base.specs.Part.{splice};
+ghost use Prim.Native.Nat.{_+_, _≤_, _<_};
 ghost use Rattle.model.specs.Commands.{transferEnding};
 ghost use Rattle.model.specs.Premises.{addressLimit};
-ghost use Rattle.transfers.specs.Last.{lastOf};
-
-// After a transfer the last sector done is at the buffer's front.
-pub fn keep_last(buffer: &mut [u8], sectors: usize, size: usize, moved: &[u8])
-    requires { ⌜ (size ≤ length (now buffer)) × (sectors * size ≤ length (now moved)) × (sectors ≤ 256) ⌝ }
-    ensures { λ _. ⌜ now (buffer .exit) ≡ splice 0 (lastOf sectors size (now (moved .entry))) (now (buffer .entry)) ⌝ }
-{
-    if sectors == 0 {
-        return;
-    }
-    let start = (sectors - 1) * size;
-    let end = start + size;
-    put_front(buffer, &moved[start..end]);
-}
 
 // A transfer's end: good, or the failing sector's code and address.
 pub fn finish(entry: Drive, b: Block, done: Done, bytes: u32) -> Ending

@@ -1,11 +1,11 @@
 // Write.
 use crate::transfer::finish;
-use crate::transfer::keep_last;
 use checks::block::count_of;
 use geometry::params::Params;
 use model::block::Block;
 use model::record::Drive;
 use model::record::Ending;
+use sectors::transfer::keep_last;
 use sectors::write::write_sectors;
 ghost use mathlib.Core.Path.{_≡_};
 ghost use mathlib.Core.List.{[]};

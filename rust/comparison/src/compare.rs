@@ -185,7 +185,7 @@ fn count<E: Engine>(
     engine: &E,
     images: &[Vec<u8>; 4],
 ) {
-    tally.count(call, answer, &engine.record().drives, images.each_ref().map(Vec::len));
+    tally.count(call, answer, &engine.record().drives, images);
 }
 
 /// Lets an engine do a call and compares the whole outcome.

@@ -3,35 +3,86 @@
 
 use crate::engine::Call;
 use crate::outcome::Outcome;
-use crate::paper::{self, Kind, Request};
+use crate::paper::{self, CopyBlocks, Geometry, Kind, Place, Request, COPY};
 
 /// The ways of a transfer: what it does, and on which track the slots are.
-pub const WAYS: [&str; 4] =
-    ["Read, home track", "Read, partner", "Write, home track", "Write, partner"];
+pub const WAYS: [&str; 8] = [
+    "Read, home track",
+    "Read, partner",
+    "Write, home track",
+    "Write, partner",
+    "Copy from home track",
+    "Copy from partner",
+    "Copy to home track",
+    "Copy to partner",
+];
+
+/// Sectors that were moved, and the first of the two ways in which they were.
+struct Moved {
+    first: Place,
+    count: u32,
+    way: usize,
+}
 
 /// The ways, by their place in [`WAYS`], in which a call met such sectors among those that it moved,
 /// each with the kind of drive. A transfer changes no ID and no parameters, so its outcome tells
 /// what it found.
 pub fn met(call: &Call, outcome: &Outcome) -> Vec<(Kind, usize)> {
+    let mut met = Vec::new();
+    for Moved { first, count, way } in moved(call, outcome) {
+        let [home, partner] = met_in(first, count, outcome);
+        let kind = Kind::of(first.drive);
+        met.extend(home.then_some((kind, way)));
+        met.extend(partner.then_some((kind, way + 1)));
+    }
+    met
+}
+
+/// The sectors that a call moved.
+fn moved(call: &Call, outcome: &Outcome) -> Vec<Moved> {
     let Call::Execute { block, .. } = call else {
         return Vec::new();
     };
+    let done = u32::from(outcome.answer.sectors);
     // Other commands, and blocks that are refused, move no sector.
-    if outcome.answer.sectors == 0 {
+    if done == 0 {
         return Vec::new();
     }
-    let mut met = [false; WAYS.len()];
+    if block[0] == COPY {
+        return copied(&CopyBlocks::read(block), done, outcome);
+    }
     let request = Request::read(block);
-    let geometry = outcome.setting.view(request.drive).geometry.expect("sectors were moved");
-    let image = &outcome.setting.images[request.drive];
-    for address in request.address..request.address + u32::from(outcome.answer.sectors) {
+    let way = if request.opcode == 0x08 { 0 } else { 2 };
+    vec![Moved { first: request.place(), count: done, way }]
+}
+
+/// The destination sectors of a Copy that are done, and the source sectors whose bytes they have.
+fn copied(copy: &CopyBlocks, done: u32, outcome: &Outcome) -> Vec<Moved> {
+    let [from, to] =
+        [copy.source, copy.destination].map(|place| geometry(place.drive, outcome).data);
+    let read = copy.count.min((done as usize * to).div_ceil(from) as u32);
+    vec![
+        Moved { first: copy.source, count: read, way: 4 },
+        Moved { first: copy.destination, count: done, way: 6 },
+    ]
+}
+
+fn geometry(drive: usize, outcome: &Outcome) -> Geometry {
+    outcome.setting.view(drive).geometry.expect("sectors were moved")
+}
+
+/// Whether such sectors are among those from `first` on: on their home track, and on a partner.
+fn met_in(first: Place, count: u32, outcome: &Outcome) -> [bool; 2] {
+    let mut met = [false; 2];
+    let geometry = geometry(first.drive, outcome);
+    let image = &outcome.setting.images[first.drive];
+    for address in first.address..first.address + count {
         let (track, sector) = geometry.split(address);
         let searched = paper::searched_track(image, &geometry, track).expect("it was moved");
         let holds = |slot: &u32| paper::holds(image, &geometry, searched, *slot, sector);
         if (0..geometry.sectors).filter(holds).count() > 1 {
-            let (write, partner) = (request.opcode == 0x0A, searched != track);
-            met[2 * usize::from(write) + usize::from(partner)] = true;
+            met[usize::from(searched != track)] = true;
         }
     }
-    (0..met.len()).filter(|&way| met[way]).map(|way| (request.kind(), way)).collect()
+    met
 }

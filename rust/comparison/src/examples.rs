@@ -215,6 +215,52 @@ pub fn more_frames<E: Engine>(make: &impl Fn(&Controller) -> E) {
     }
 }
 
+/// Frames with copies (request E5): a line that begins with 20h has ten block bytes.
+pub fn copy_frames<E: Engine>(make: &impl Fn(&Controller) -> E) {
+    let mut bench = Bench::fresh(make, FRAMES);
+    let sector = "5A".repeat(256);
+    let (written, read) = (format!("0A0000050100{sector}"), format!("002000{sector}"));
+    // Three cylinders, one head, 96 sectors of 256 bytes.
+    let lines = [
+        ("20", "010000"),
+        ("200000000000", "010000"),
+        ("200000000120000000", "010000"),
+        ("20000000012000000000", "000200"),
+        ("030000000000", "0000000A000000"),
+        ("1100000000000003010001000000000B", "000000"),
+        ("040000000100", "000000"),
+        // Drive 1 has no parameters yet: drive 0's sense says so, drive 1's stays.
+        ("20000000012000000000", "000200"),
+        ("030000000000", "0000000A200000"),
+        ("032000000000", "00200000000000"),
+        ("1120000000000003010001000000000B", "002000"),
+        ("20000000012000000000", "000200"),
+        ("030000000000", "00000016200000"),
+        ("042000000100", "002000"),
+        (&written, "000000"),
+        // With the spare byte set, control bit 7, and a byte of data that is not taken.
+        ("200000050120000700", "010000"),
+        ("2000000501200007AB80FF", "000000"),
+        ("030000000000", "00000000000000"),
+        ("082000070100", &read),
+        ("20000005020000060000", "000200"),
+        ("030000000000", "00000022000000"),
+        ("200000000220005F0000", "000200"),
+        ("030000000000", "000000A120005F"),
+        ("20000000012000000020", "000200"),
+        ("030000000000", "00000022000000"),
+        ("2000000001A000000000", "000200"),
+        ("030000000000", "00000022200000"),
+        ("20000000014000000000", "000200"),
+        ("030000000000", "00000004400000"),
+        ("2060000001C000000000", "006200"),
+        ("036000000000", "00600004600000"),
+    ];
+    for (line, printed) in lines {
+        assert_eq!(bench.frame(line), printed, "line {line}");
+    }
+}
+
 impl<E: Engine> Bench<E> {
     /// What the program frames prints for a line.
     fn frame(&mut self, line: &str) -> String {
@@ -225,7 +271,8 @@ impl<E: Engine> Bench<E> {
             self.engine.reset(lent(&self.images));
             return "000000".to_string();
         }
-        let (block, given) = bytes.split_at(bytes.len().min(6));
+        let length = if bytes.first() == Some(&0x20) { 10 } else { 6 };
+        let (block, given) = bytes.split_at(bytes.len().min(length));
         let mut area = [0; 1024];
         let answer = self.execute(block, given, &mut area);
         let head = [answer.number, answer.status, answer.message];

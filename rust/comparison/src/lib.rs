@@ -6,9 +6,10 @@
 //! - [`machine`], [`outcome`]: what a call comes to, on the terms of [`paper`], which `plain` does
 //!   not use, so that a slip in one is not repeated in the other.
 //! - [`random`], [`compare`], [`examples`]: what is tried, for any [`engine::Engine`].
-//! - [`duplicates`], [`tally`]: what was reached.
+//! - [`copies`], [`duplicates`], [`tally`]: what was reached.
 
 pub mod compare;
+pub mod copies;
 pub mod duplicates;
 pub mod engine;
 pub mod examples;

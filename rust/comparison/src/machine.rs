@@ -3,7 +3,9 @@
 use std::collections::BTreeMap;
 use std::rc::Rc;
 
-use crate::paper::{self, Condition, Config, Fault, Geometry, Kind, Request, Stop, View};
+use crate::paper::{
+    self, Command, Condition, Config, CopyBlocks, Fault, Geometry, Kind, Place, Request, Stop, View,
+};
 use crate::plain::Answer;
 
 /// An answer with the data handed over.
@@ -116,6 +118,21 @@ impl Drive {
             State::Sound | State::MovedTo(_) => Ok(known.interleave),
         }
     }
+
+    /// What the map has at a place of this drive.
+    fn sector(&self, geometry: &Geometry, place: Place) -> Result<&[u8], Fault> {
+        let (track, _) = geometry.split(place.address);
+        self.usable(track).map_err(|code| place.fault(code))?;
+        Ok(&self.held[&place.address])
+    }
+
+    /// Puts bytes into the map.
+    fn hold(&mut self, geometry: &Geometry, place: Place, bytes: &[u8]) -> Result<(), Fault> {
+        let (track, _) = geometry.split(place.address);
+        self.usable(track).map_err(|code| place.fault(code))?;
+        self.held.insert(place.address, bytes.into());
+        Ok(())
+    }
 }
 
 impl Machine {
@@ -144,13 +161,15 @@ impl Machine {
                 return reply;
             }
             Err(Stop::Fault(drive, fault)) => (drive, Err(fault)),
-            Ok(request) => (request.drive, self.perform(&request, given, &mut reply)),
+            Ok(Command::Single(request)) => {
+                (request.drive, self.perform(&request, given, &mut reply))
+            }
+            Ok(Command::Copy(copy)) => (copy.source.drive, self.copy(&copy, &mut reply)),
         };
         reply.answer.status = 32 * drive as u8 + if ended.is_err() { 2 } else { 0 };
         reply.answer.bytes = reply.data.len() as u32;
         if block[0] != 0x03 || ended.is_err() {
-            let fault = ended.err().unwrap_or(Fault { code: 0, address: 0 });
-            self.senses[drive] = paper::sense(drive, fault);
+            self.senses[drive] = ended.map_or_else(paper::sense, |()| paper::good_sense(drive));
         }
         reply
     }
@@ -248,10 +267,8 @@ impl Machine {
     fn read(&mut self, request: &Request, reply: &mut Reply) -> Result<(), Fault> {
         let drive = &self.drives[request.drive];
         let geometry = drive.admitted();
-        for address in request.address..request.address + request.count {
-            let (track, _) = geometry.split(address);
-            drive.usable(track).map_err(|code| Fault { code, address })?;
-            let bytes = &drive.held[&address];
+        for k in 0..request.count {
+            let bytes = drive.sector(&geometry, request.place().further(k))?;
             reply.data.extend_from_slice(bytes);
             self.buffer[..bytes.len()].copy_from_slice(bytes);
             reply.answer.sectors += 1;
@@ -262,14 +279,58 @@ impl Machine {
     fn write(&mut self, request: &Request, given: &[u8], reply: &mut Reply) -> Result<(), Fault> {
         let drive = &mut self.drives[request.drive];
         let geometry = drive.admitted();
-        let addresses = request.address..request.address + request.count;
-        for (address, bytes) in addresses.zip(given.chunks_exact(geometry.data)) {
-            let (track, _) = geometry.split(address);
-            drive.usable(track).map_err(|code| Fault { code, address })?;
-            drive.held.insert(address, bytes.into());
+        for (k, bytes) in (0..request.count).zip(given.chunks_exact(geometry.data)) {
+            drive.hold(&geometry, request.place().further(k), bytes)?;
             self.buffer[..bytes.len()].copy_from_slice(bytes);
             reply.answer.sectors += 1;
         }
         Ok(())
+    }
+
+    /// All at once, not sector by sector: the bytes of the source up to its first fault fill as many
+    /// destination sectors as they can. A fault among these comes before the source's, since each is
+    /// searched for as soon as its bytes are read.
+    fn copy(&mut self, copy: &CopyBlocks, reply: &mut Reply) -> Result<(), Fault> {
+        let size = self.drives[copy.destination.drive].admitted().data;
+        let (mut bytes, fault) = self.readable(copy);
+        let rest = bytes.len() % size;
+        match fault {
+            Some(_) => bytes.truncate(bytes.len() - rest),
+            None => bytes.resize(bytes.len().next_multiple_of(size), 0),
+        }
+        let last = self.hold_all(copy.destination, &bytes, reply)?;
+        match fault {
+            Some(fault) => Err(fault),
+            None if rest > 0 => Err(last.fault(0x23)),
+            None => Ok(()),
+        }
+    }
+
+    /// The bytes of a Copy's source up to its first fault.
+    fn readable(&self, copy: &CopyBlocks) -> (Vec<u8>, Option<Fault>) {
+        let drive = &self.drives[copy.source.drive];
+        let geometry = drive.admitted();
+        let mut bytes = Vec::new();
+        for k in 0..copy.count {
+            match drive.sector(&geometry, copy.source.further(k)) {
+                Ok(sector) => bytes.extend_from_slice(sector),
+                Err(fault) => return (bytes, Some(fault)),
+            }
+        }
+        (bytes, None)
+    }
+
+    /// Writes whole sectors from a place on; gives the last place, the first if there are none.
+    fn hold_all(&mut self, first: Place, bytes: &[u8], reply: &mut Reply) -> Result<Place, Fault> {
+        let drive = &mut self.drives[first.drive];
+        let geometry = drive.admitted();
+        let mut last = first;
+        for (k, sector) in (0..).zip(bytes.chunks_exact(geometry.data)) {
+            last = first.further(k);
+            drive.hold(&geometry, last, sector)?;
+            self.buffer[..sector.len()].copy_from_slice(sector);
+            reply.answer.sectors += 1;
+        }
+        Ok(last)
     }
 }

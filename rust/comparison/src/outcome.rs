@@ -2,14 +2,17 @@
 //! controller record: one for each call, so an engine's is compared with it by equality. One thing
 //! is our choice: a drive that Reset leaves without parameters has a record of zeros.
 
+use std::collections::VecDeque;
 use std::ops::Range;
 
 use crate::engine::{apply, Call, Engine};
-use crate::paper::{self, Condition, Fault, Geometry, Kind, Request, Stop, View};
+use crate::paper::{
+    self, Command, Condition, CopyBlocks, Fault, Geometry, Kind, Place, Request, Stop, View,
+};
 use crate::plain::{Answer, Controller, Drive};
 
 /// A slot's data, as a part of its image.
-type Place = Range<usize>;
+type Slot = Range<usize>;
 
 /// Everything that a call may look at or change.
 #[derive(Clone, Debug, PartialEq, Eq)]
@@ -22,12 +25,20 @@ pub struct Setting {
 impl Setting {
     /// A drive as the order of checks sees it.
     pub fn view(&self, drive: usize) -> View {
-        let length = self.images[drive].len();
-        let record = &self.controller.drives[drive];
-        let geometry = Geometry::read(Kind::of(drive), &record.config, length);
-        let geometry = geometry.filter(|_| record.known);
-        View { present: length >= paper::LABEL, geometry, pending: record.pending }
+        view(drive, &self.controller.drives[drive], self.images[drive].len())
     }
+
+    /// The geometry of a command that was admitted with parameters.
+    fn admitted(&self, drive: usize) -> Geometry {
+        self.view(drive).geometry.expect("admitted with parameters")
+    }
+}
+
+/// A drive as the order of checks sees it, by its record and its image's length.
+pub fn view(drive: usize, record: &Drive, length: usize) -> View {
+    let geometry = Geometry::read(Kind::of(drive), &record.config, length);
+    let geometry = geometry.filter(|_| record.known);
+    View { present: length >= paper::LABEL, geometry, pending: record.pending }
 }
 
 /// What a call answers, and what it leaves of its setting.
@@ -92,17 +103,18 @@ impl Outcome {
                 return;
             }
             Err(Stop::Fault(drive, fault)) => (drive, Err(fault)),
-            Ok(request) if request.opcode == 0x03 => {
+            Ok(Command::Single(request)) if request.opcode == 0x03 => {
                 self.answer.status = 32 * request.drive as u8;
                 let sense = self.setting.controller.drives[request.drive].sense;
                 self.hand_over(&sense);
                 return;
             }
-            Ok(request) => (request.drive, self.perform(&request, given)),
+            Ok(Command::Single(request)) => (request.drive, self.perform(&request, given)),
+            Ok(Command::Copy(copy)) => (copy.source.drive, self.copy(&copy)),
         };
         self.answer.status = 32 * drive as u8 + if ended.is_err() { 2 } else { 0 };
-        let fault = ended.err().unwrap_or(Fault { code: 0, address: 0 });
-        self.setting.controller.drives[drive].sense = paper::sense(drive, fault);
+        let sense = ended.map_or_else(paper::sense, |()| paper::good_sense(drive));
+        self.setting.controller.drives[drive].sense = sense;
     }
 
     fn hand_over(&mut self, bytes: &[u8]) {
@@ -126,8 +138,7 @@ impl Outcome {
     }
 
     fn perform_on_drive(&mut self, request: &Request, given: &[u8]) -> Result<(), Fault> {
-        let view = self.setting.view(request.drive);
-        let geometry = view.geometry.expect("admitted with parameters");
+        let geometry = self.setting.admitted(request.drive);
         match request.opcode {
             0x04 => self.format_drive(request, &geometry),
             0x05 => self.check_track(request, &geometry),
@@ -241,18 +252,35 @@ impl Outcome {
         Ok(())
     }
 
-    /// The data of the transfer's sector `k`, in the image.
-    fn found_slot(&self, request: &Request, geometry: &Geometry, k: u32) -> Result<Place, Fault> {
-        let address = request.address + k;
-        let (track, sector) = geometry.split(address);
-        paper::found_slot(self.image(request), geometry, track, sector)
-            .map_err(|code| Fault { code, address })
+    /// The data of the sector at a place, in its image.
+    fn found_slot(&self, place: Place, geometry: &Geometry) -> Result<Slot, Fault> {
+        let (track, sector) = geometry.split(place.address);
+        paper::found_slot(&self.setting.images[place.drive], geometry, track, sector)
+            .map_err(|code| place.fault(code))
+    }
+
+    fn read_sector(&self, place: Place, geometry: &Geometry) -> Result<Vec<u8>, Fault> {
+        let slot = self.found_slot(place, geometry)?;
+        Ok(self.setting.images[place.drive][slot].to_vec())
+    }
+
+    /// Writes a sector, leaves it in the buffer and counts it.
+    fn write_sector(
+        &mut self,
+        place: Place,
+        geometry: &Geometry,
+        bytes: &[u8],
+    ) -> Result<(), Fault> {
+        let slot = self.found_slot(place, geometry)?;
+        self.setting.images[place.drive][slot].copy_from_slice(bytes);
+        self.leave_in_buffer(bytes);
+        self.answer.sectors += 1;
+        Ok(())
     }
 
     fn read(&mut self, request: &Request, geometry: &Geometry) -> Result<(), Fault> {
         for k in 0..request.count {
-            let slot = self.found_slot(request, geometry, k)?;
-            let bytes = self.image(request)[slot].to_vec();
+            let bytes = self.read_sector(request.place().further(k), geometry)?;
             self.hand_over(&bytes);
             self.leave_in_buffer(&bytes);
             self.answer.sectors += 1;
@@ -262,10 +290,30 @@ impl Outcome {
 
     fn write(&mut self, request: &Request, geometry: &Geometry, given: &[u8]) -> Result<(), Fault> {
         for (k, bytes) in (0..request.count).zip(given.chunks_exact(geometry.data)) {
-            let slot = self.found_slot(request, geometry, k)?;
-            self.setting.images[request.drive][slot].copy_from_slice(bytes);
-            self.leave_in_buffer(bytes);
-            self.answer.sectors += 1;
+            self.write_sector(request.place().further(k), geometry, bytes)?;
+        }
+        Ok(())
+    }
+
+    /// Source sector after source sector; each time those destination sectors are written whose
+    /// bytes are there, at the end also one that is filled in part.
+    fn copy(&mut self, copy: &CopyBlocks) -> Result<(), Fault> {
+        let [from, to] =
+            [copy.source, copy.destination].map(|place| self.setting.admitted(place.drive));
+        let mut waiting: VecDeque<u8> = VecDeque::new();
+        let mut next = copy.destination;
+        for k in 0..copy.count {
+            waiting.extend(self.read_sector(copy.source.further(k), &from)?);
+            let is_last = k + 1 == copy.count;
+            while waiting.len() >= to.data || (is_last && !waiting.is_empty()) {
+                let missing = to.data.saturating_sub(waiting.len());
+                let bytes: Vec<u8> = waiting.drain(..to.data - missing).collect();
+                self.write_sector(next, &to, &[&bytes[..], &vec![0; missing]].concat())?;
+                if missing > 0 {
+                    return Err(next.fault(0x23));
+                }
+                next = next.further(1);
+            }
         }
         Ok(())
     }

@@ -253,22 +253,53 @@ pub fn found_slot(
     first.map(|slot| geometry.slot_data(searched, slot)).ok_or(0x14)
 }
 
-/// A code with the address that belongs to it if it gives one.
+/// A drive and an address on it.
 #[derive(Clone, Copy, Debug, PartialEq, Eq)]
-pub struct Fault {
-    pub code: u8,
+pub struct Place {
+    pub drive: usize,
     pub address: u32,
 }
 
+impl Place {
+    /// What three bytes of a block name.
+    fn read(bytes: &[u8]) -> Place {
+        Place {
+            drive: usize::from(bytes[0] % 128 / 32),
+            address: u32::from_be_bytes([0, bytes[0] % 32, bytes[1], bytes[2]]),
+        }
+    }
+
+    /// The place so many addresses further.
+    pub fn further(self, by: u32) -> Place {
+        Place { address: self.address + by, ..self }
+    }
+
+    pub fn fault(self, code: u8) -> Fault {
+        Fault { code, place: self }
+    }
+}
+
+/// A code with the drive that failed and the address that belongs to it if it gives one.
+#[derive(Clone, Copy, Debug, PartialEq, Eq)]
+pub struct Fault {
+    pub code: u8,
+    pub place: Place,
+}
+
 /// The sense that a fault leaves.
-pub fn sense(drive: usize, fault: Fault) -> [u8; 4] {
-    let drive_bits = 32 * drive as u8;
-    if matches!(fault.code, 0x21 | 0x10..=0x15 | 0x19..=0x1F) {
-        let [_, high, middle, low] = fault.address.to_be_bytes();
+pub fn sense(fault: Fault) -> [u8; 4] {
+    let drive_bits = 32 * fault.place.drive as u8;
+    if matches!(fault.code, 0x21 | 0x23 | 0x10..=0x15 | 0x19..=0x1F) {
+        let [_, high, middle, low] = fault.place.address.to_be_bytes();
         [fault.code + 0x80, drive_bits + high, middle, low]
     } else {
         [fault.code, drive_bits, 0, 0]
     }
+}
+
+/// The sense that a good end leaves.
+pub fn good_sense(drive: usize) -> [u8; 4] {
+    sense(Place { drive, address: 0 }.fault(0))
 }
 
 /// A drive as the order of checks sees it at a call.
@@ -291,15 +322,25 @@ pub struct Request {
     pub from_buffer: bool,
 }
 
+/// A count byte's sectors.
+fn count(byte: u8) -> u32 {
+    if byte == 0 {
+        256
+    } else {
+        u32::from(byte)
+    }
+}
+
 impl Request {
     /// The fields of six bytes.
     pub fn read(block: &[u8]) -> Request {
+        let Place { drive, address } = Place::read(&block[1..4]);
         Request {
             opcode: block[0],
-            drive: usize::from(block[1] % 128 / 32),
-            address: u32::from_be_bytes([0, block[1] % 32, block[2], block[3]]),
+            drive,
+            address,
             interleave: u32::from(block[4]),
-            count: if block[4] == 0 { 256 } else { u32::from(block[4]) },
+            count: count(block[4]),
             from_buffer: block[5] / 32 % 2 == 1,
         }
     }
@@ -323,9 +364,14 @@ impl Request {
         }
     }
 
+    /// The place that the block names.
+    pub fn place(&self) -> Place {
+        Place { drive: self.drive, address: self.address }
+    }
+
     /// A fault with the block's address.
     pub fn fault(&self, code: u8) -> Fault {
-        Fault { code, address: self.address }
+        self.place().fault(code)
     }
 
     fn is_transfer(&self) -> bool {
@@ -352,24 +398,87 @@ impl Request {
     }
 }
 
+/// A Copy's block of ten bytes (request E5). Byte 8 is spare.
+#[derive(Clone, Copy, Debug)]
+pub struct CopyBlocks {
+    pub source: Place,
+    pub destination: Place,
+    /// Of source sectors.
+    pub count: u32,
+}
+
+impl CopyBlocks {
+    /// The fields of ten bytes.
+    pub fn read(block: &[u8]) -> CopyBlocks {
+        CopyBlocks {
+            source: Place::read(&block[1..4]),
+            destination: Place::read(&block[5..8]),
+            count: count(block[4]),
+        }
+    }
+
+    /// The bytes copied.
+    pub fn bytes(&self, from: &Geometry) -> usize {
+        self.count as usize * from.data
+    }
+
+    /// The destination sectors that they need, the last one maybe in part.
+    pub fn destination_count(&self, from: &Geometry, to: &Geometry) -> u32 {
+        self.bytes(from).div_ceil(to.data) as u32
+    }
+
+    /// Whether the two sides share a sector. On one drive they have as many.
+    pub fn overlaps(&self) -> bool {
+        let apart = self.source.address.abs_diff(self.destination.address);
+        self.source.drive == self.destination.drive && apart < self.count
+    }
+}
+
+/// A block whose checks were passed.
+#[derive(Clone, Copy, Debug)]
+pub enum Command {
+    /// One of document 01's.
+    Single(Request),
+    Copy(CopyBlocks),
+}
+
 /// Why a command does not get to its own checks.
 #[derive(Clone, Copy, Debug, PartialEq, Eq)]
 pub enum Stop {
     /// Numbers 1, 2 and 3.
     Number(u8),
-    /// A code, for the drive named.
+    /// A code, and the drive whose sense it becomes.
     Fault(usize, Fault),
 }
 
-/// The order of checks up to numbers 2 and 3.
+pub const COPY: u8 = 0x20;
+
+/// The length that a block must have.
+fn block_length(block: &[u8]) -> usize {
+    if block.first() == Some(&COPY) {
+        10
+    } else {
+        6
+    }
+}
+
+/// The order of checks up to numbers 2 and 3; for a Copy, which takes and hands over nothing, all.
 pub fn admit(
     block: &[u8],
     given: usize,
     area: usize,
     view: impl Fn(usize) -> View,
-) -> Result<Request, Stop> {
-    if block.len() != 6 {
+) -> Result<Command, Stop> {
+    if block.len() != block_length(block) {
         return Err(Stop::Number(1));
+    }
+    if block[0] == COPY {
+        let copy = CopyBlocks::read(block);
+        let admitted = check_copy(block, &copy, view);
+        return match admitted {
+            Ok(()) => Ok(Command::Copy(copy)),
+            Err(fault) => Err(Stop::Fault(copy.source.drive, fault)),
+        };
     }
     let request = Request::read(block);
     let view = view(request.drive);
@@ -383,7 +492,48 @@ pub fn admit(
     if area < request.handed_over(data) {
         return Err(Stop::Number(3));
     }
-    Ok(request)
+    Ok(Command::Single(request))
+}
+
+/// A Copy's checks: the source's, the destination's, then whether they overlap.
+fn check_copy(block: &[u8], copy: &CopyBlocks, view: impl Fn(usize) -> View) -> Result<(), Fault> {
+    let (source, destination) = (copy.source, copy.destination);
+    let undefined_control = !matches!(block[9], 0 | 0x80);
+    let source_view = view(source.drive);
+    let from =
+        check_side(source, block[1] >= 128 || undefined_control, source_view, |_| copy.count)?;
+    let destination_view = view(destination.drive);
+    check_side(destination, block[5] >= 128, destination_view, |to| {
+        copy.destination_count(&from, to)
+    })?;
+    if copy.overlaps() {
+        return Err(destination.fault(0x22));
+    }
+    Ok(())
+}
+
+/// The single-drive checks for one side of a Copy, whose sectors may depend on its parameters.
+fn check_side(
+    place: Place,
+    refused: bool,
+    view: View,
+    sectors: impl Fn(&Geometry) -> u32,
+) -> Result<Geometry, Fault> {
+    if refused {
+        return Err(place.fault(0x22));
+    }
+    if !view.present {
+        return Err(place.fault(0x04));
+    }
+    let geometry = view.geometry.ok_or(place.fault(0x0A))?;
+    let last = place.address + sectors(&geometry) - 1;
+    if last >= geometry.addresses() {
+        return Err(place.fault(0x21));
+    }
+    if view.pending {
+        return Err(place.fault(0x16));
+    }
+    Ok(geometry)
 }
 
 /// The first code of the order of checks that arises before the command's own.
@@ -462,7 +612,7 @@ pub fn check_assign(
         return Err(request.fault(0x22));
     }
     let address = u32::from_be_bytes([0, given[0], given[1], given[2]]);
-    let fault_of_b = |code| Err(Fault { code, address });
+    let fault_of_b = |code| Err(Place { address, ..request.place() }.fault(code));
     if address >= geometry.addresses() {
         return fault_of_b(0x21);
     }

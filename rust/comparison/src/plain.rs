@@ -29,6 +29,7 @@ mod opcode {
     pub const WRITE_BUFFER: u8 = 0x0F;
     pub const READ_BUFFER: u8 = 0x10;
     pub const INITIALIZE: u8 = 0x11;
+    pub const COPY: u8 = 0x20;
 }
 
 mod flag {
@@ -131,6 +132,9 @@ enum Stop {
 
 type Run = Result<(), Stop>;
 
+/// A part of a Copy, which ends early on one of its drives.
+type CopyRun<T> = Result<T, (usize, Stop)>;
+
 const fn fault(code: u8) -> Stop {
     Stop::Fault { code, address: None }
 }
@@ -217,6 +221,52 @@ impl Block {
             TEST_READY | RECALIBRATE => true,
             FORMAT_DRIVE => geometry.track(self.address) == 0,
             _ => false,
+        }
+    }
+}
+
+/// A Copy's block of ten bytes, taken apart; one of them is spare.
+struct CopyBlock {
+    source: Side,
+    destination: Side,
+    /// Of source sectors.
+    count: usize,
+    control: u8,
+}
+
+/// What a Copy's block says of one drive.
+struct Side {
+    unused_bit: bool,
+    drive: usize,
+    address: usize,
+}
+
+impl CopyBlock {
+    fn decode(bytes: &[u8; 10]) -> CopyBlock {
+        let [_, s1, s2, s3, count, d1, d2, d3, _, control] = *bytes;
+        CopyBlock {
+            source: Side::decode([s1, s2, s3]),
+            destination: Side::decode([d1, d2, d3]),
+            count: if count == 0 { 256 } else { usize::from(count) },
+            control,
+        }
+    }
+
+    /// Whether a sector is read and written. On one drive as many are written as are read.
+    fn overlaps(&self) -> bool {
+        let (source, destination) = (&self.source, &self.destination);
+        source.drive == destination.drive
+            && source.address < destination.address + self.count
+            && destination.address < source.address + self.count
+    }
+}
+
+impl Side {
+    fn decode([first, middle, low]: [u8; 3]) -> Side {
+        Side {
+            unused_bit: first & 0x80 != 0,
+            drive: usize::from(first >> 5 & 3),
+            address: address_of(&[first & 0x1F, middle, low]),
         }
     }
 }
@@ -439,6 +489,121 @@ fn transfer(
     Ok(())
 }
 
+/// Finds one sector after the other: a track is judged once, and each of its IDs is looked at at
+/// most once.
+struct Walk {
+    geometry: Geometry,
+    track: usize,
+    sector: usize,
+    /// Where the stretch is that has the track's sectors; none before the track was judged.
+    home: Option<usize>,
+    index: SlotIndex,
+}
+
+impl Walk {
+    fn from(geometry: Geometry, address: usize) -> Walk {
+        let (track, sector) = (geometry.track(address), address % geometry.sectors);
+        Walk { geometry, track, sector, home: None, index: SlotIndex::new() }
+    }
+
+    /// The address that is next.
+    fn address(&self) -> usize {
+        self.track * self.geometry.sectors + self.sector
+    }
+
+    /// The next sector is not found.
+    fn fault(&self, code: u8, side: &Side) -> (usize, Stop) {
+        (side.drive, fault_at(code, self.address()))
+    }
+
+    /// Where the data of the next sector start, or the code.
+    #[inline]
+    fn next(&mut self, image: &[u8]) -> Result<usize, u8> {
+        let home = match self.home {
+            Some(home) => home,
+            None => self.enter(image)?,
+        };
+        let slot_size = self.geometry.slot_size();
+        let stretch = &image[home..home + self.geometry.sectors * slot_size];
+        let slot = self.index.find(stretch, slot_size, self.sector).ok_or(0x14)?;
+        self.sector += 1;
+        if self.sector == self.geometry.sectors {
+            (self.track, self.sector, self.home) = (self.track + 1, 0, None);
+        }
+        Ok(home + slot * slot_size + ID)
+    }
+
+    fn enter(&mut self, image: &[u8]) -> Result<usize, u8> {
+        let home = self.geometry.home(image, self.track)?;
+        let start = self.geometry.stretch(home).start;
+        (self.home, self.index) = (Some(start), SlotIndex::new());
+        Ok(start)
+    }
+}
+
+/// A Copy under way.
+struct Copying<'a> {
+    source: &'a Side,
+    destination: &'a Side,
+    images: [&'a mut [u8]; 4],
+    from: Walk,
+    to: Walk,
+    /// Bytes read that are not yet written.
+    waiting: [u8; BUFFER],
+    /// Destination sectors written, and where the data of the last of them start.
+    written: usize,
+    last: usize,
+}
+
+impl Copying<'_> {
+    /// Reads what fills whole sectors of the larger size, and writes it before it reads on: so each
+    /// destination sector is searched for once its bytes are read.
+    fn run(&mut self, count: usize) -> CopyRun<()> {
+        let (from, to) = (self.from.geometry.data, self.to.geometry.data);
+        let (size, in_one) = if from < to { (to, to / from) } else { (from, 1) };
+        let mut left = count;
+        while left > 0 {
+            let taken = in_one.min(left);
+            for start in (0..taken * from).step_by(from) {
+                self.read(start)?;
+            }
+            if taken < in_one {
+                self.waiting[taken * from..size].fill(0);
+            }
+            self.write(size)?;
+            left -= taken;
+        }
+        if !count.is_multiple_of(in_one) {
+            let last = self.to.address() - 1;
+            return Err((self.destination.drive, fault_at(0x23, last)));
+        }
+        Ok(())
+    }
+
+    /// Reads the next source sector; its bytes wait from `start` on.
+    fn read(&mut self, start: usize) -> CopyRun<()> {
+        let image = &*self.images[self.source.drive];
+        let found = self.from.next(image);
+        let found = found.map_err(|code| self.from.fault(code, self.source))?;
+        let data = self.from.geometry.data;
+        self.waiting[start..start + data].copy_from_slice(&image[found..found + data]);
+        Ok(())
+    }
+
+    /// Writes the first so many of the waiting bytes, whole sectors.
+    fn write(&mut self, size: usize) -> CopyRun<()> {
+        let image = &mut *self.images[self.destination.drive];
+        let data = self.to.geometry.data;
+        for sector in self.waiting[..size].chunks_exact(data) {
+            let found = self.to.next(image);
+            let found = found.map_err(|code| self.to.fault(code, self.destination))?;
+            image[found..found + data].copy_from_slice(sector);
+            (self.written, self.last) = (self.written + 1, found);
+        }
+        Ok(())
+    }
+}
+
 fn hand_over(bytes: &[u8], area: &mut [u8], answer: &mut Answer) -> Run {
     let handed = area.get_mut(..bytes.len()).ok_or(Stop::Refused(3))?;
     handed.copy_from_slice(bytes);
@@ -472,6 +637,14 @@ impl Drive {
     }
 }
 
+fn drive_bits(drive: usize) -> u8 {
+    (drive as u8) << 5
+}
+
+fn refused(number: u8) -> Answer {
+    Answer { number, ..Answer::default() }
+}
+
 impl Controller {
     pub fn fresh(images: [&[u8]; 4]) -> Controller {
         let drives = std::array::from_fn(|drive| Drive::from_label(KINDS[drive], images[drive]));
@@ -490,25 +663,50 @@ impl Controller {
         area: &mut [u8],
         images: [&mut [u8]; 4],
     ) -> Answer {
+        if block.first() == Some(&opcode::COPY) {
+            return self.execute_copy(block, images);
+        }
         let Ok(bytes) = <&[u8; 6]>::try_from(block) else {
-            return Answer { number: 1, ..Answer::default() };
+            return refused(1);
         };
         let block = Block::decode(bytes);
         let image = &mut *images[block.drive];
-        let drive_bits = (block.drive as u8) << 5;
-        let mut answer = Answer { status: drive_bits, ..Answer::default() };
-        let (code, address) = match self.run(&block, given, area, image, &mut answer) {
-            Ok(()) if block.opcode == opcode::REQUEST_SENSE => return answer,
+        let mut answer = Answer { status: drive_bits(block.drive), ..Answer::default() };
+        let ended = self.run(&block, given, area, image, &mut answer);
+        if ended.is_ok() && block.opcode == opcode::REQUEST_SENSE {
+            return answer;
+        }
+        self.end(block.drive, block.drive, ended, answer)
+    }
+
+    fn execute_copy(&mut self, block: &[u8], images: [&mut [u8]; 4]) -> Answer {
+        let Ok(bytes) = <&[u8; 10]>::try_from(block) else {
+            return refused(1);
+        };
+        let block = CopyBlock::decode(bytes);
+        let drive = block.source.drive;
+        let mut answer = Answer { status: drive_bits(drive), ..Answer::default() };
+        let (named, ended) = match self.copy(&block, images, &mut answer) {
+            Ok(()) => (drive, Ok(())),
+            Err((named, stop)) => (named, Err(stop)),
+        };
+        self.end(drive, named, ended, answer)
+    }
+
+    /// The answer of a command on a drive; the sense, kept for that drive, names the one that failed.
+    fn end(&mut self, drive: usize, named: usize, ended: Run, mut answer: Answer) -> Answer {
+        let (code, address) = match ended {
             Ok(()) => (0, None),
-            Err(Stop::Refused(number)) => return Answer { number, ..Answer::default() },
+            Err(Stop::Refused(number)) => return refused(number),
             Err(Stop::Fault { code, address }) => {
                 answer.status |= 2;
                 (code, address)
             }
         };
-        self.drives[block.drive].sense = match address {
-            None => [code, drive_bits, 0, 0],
-            Some(at) => [code | 0x80, drive_bits | (at >> 16) as u8, (at >> 8) as u8, at as u8],
+        let bits = drive_bits(named);
+        self.drives[drive].sense = match address {
+            None => [code, bits, 0, 0],
+            Some(at) => [code | 0x80, bits | (at >> 16) as u8, (at >> 8) as u8, at as u8],
         };
         answer
     }
@@ -558,23 +756,83 @@ impl Controller {
         }
     }
 
-    /// The checks from 04h to 16h of the commands that need parameters.
-    fn check_drive(&self, block: &Block, image_length: usize) -> Result<Geometry, Stop> {
-        let drive = &self.drives[block.drive];
+    /// The parameters in force: 04h and 0Ah.
+    fn parameters(&self, drive: usize, image_length: usize) -> Result<Geometry, Stop> {
         if image_length < LABEL {
             return Err(fault(0x04));
         }
-        let geometry = drive.geometry(block.kind(), image_length).ok_or(fault(0x0A))?;
+        self.drives[drive].geometry(KINDS[drive], image_length).ok_or(fault(0x0A))
+    }
+
+    /// The checks from 04h to 16h of the commands that need parameters.
+    fn check_drive(&self, block: &Block, image_length: usize) -> Result<Geometry, Stop> {
+        let geometry = self.parameters(block.drive, image_length)?;
         if block.has_interleave() && !(1..geometry.sectors).contains(&block.fifth) {
             return Err(fault(0x22));
         }
         if block.last_address().is_some_and(|last| last >= geometry.addresses()) {
             return Err(fault_at(0x21, block.address));
         }
-        if drive.pending && !block.runs_pending(geometry) {
+        if self.drives[block.drive].pending && !block.runs_pending(geometry) {
             return Err(fault(0x16));
         }
         Ok(geometry)
+    }
+
+    /// The checks of one side of a Copy; how many sectors it has may depend on their size.
+    fn check_side(
+        &self,
+        side: &Side,
+        image_length: usize,
+        sectors: impl Fn(Geometry) -> usize,
+    ) -> CopyRun<Geometry> {
+        let on_drive = |stop| (side.drive, stop);
+        if side.unused_bit {
+            return Err(on_drive(fault(0x22)));
+        }
+        let geometry = self.parameters(side.drive, image_length).map_err(on_drive)?;
+        if side.address + sectors(geometry) > geometry.addresses() {
+            return Err(on_drive(fault_at(0x21, side.address)));
+        }
+        if self.drives[side.drive].pending {
+            return Err(on_drive(fault(0x16)));
+        }
+        Ok(geometry)
+    }
+
+    fn copy(
+        &mut self,
+        block: &CopyBlock,
+        images: [&mut [u8]; 4],
+        answer: &mut Answer,
+    ) -> CopyRun<()> {
+        let (source, destination) = (&block.source, &block.destination);
+        if block.control & !0x80 != 0 {
+            return Err((source.drive, fault(0x22)));
+        }
+        let from = self.check_side(source, images[source.drive].len(), |_| block.count)?;
+        let needed = |to: Geometry| (block.count * from.data).div_ceil(to.data);
+        let to = self.check_side(destination, images[destination.drive].len(), needed)?;
+        if block.overlaps() {
+            return Err((destination.drive, fault(0x22)));
+        }
+        let mut copying = Copying {
+            source,
+            destination,
+            images,
+            from: Walk::from(from, source.address),
+            to: Walk::from(to, destination.address),
+            waiting: [0; BUFFER],
+            written: 0,
+            last: 0,
+        };
+        let ended = copying.run(block.count);
+        if copying.written > 0 {
+            let last = &copying.images[destination.drive][copying.last..][..to.data];
+            self.buffer[..to.data].copy_from_slice(last);
+        }
+        answer.sectors = copying.written as u16;
+        ended
     }
 
     fn initialize(&mut self, block: &Block, given: &[u8], image: &[u8]) -> Run {

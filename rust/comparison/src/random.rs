@@ -5,12 +5,12 @@ use std::collections::BTreeMap;
 use std::ops::RangeInclusive;
 
 use crate::engine::{Call, Step};
-use crate::paper::{self, Config, Geometry, Kind, ID, LABEL};
+use crate::paper::{self, Config, CopyBlocks, Geometry, Kind, Place, COPY, ID, LABEL};
 use crate::plain::{Controller, Drive};
 use crate::tally::OPCODES;
 
 /// Commands on a drive with its parameters in force, by weight.
-const ON_FORMATTED: [(u32, u8); 14] = [
+const ON_FORMATTED: [(u32, u8); 15] = [
     (2, 0x00),
     (1, 0x01),
     (8, 0x03),
@@ -25,6 +25,7 @@ const ON_FORMATTED: [(u32, u8); 14] = [
     (3, 0x0F),
     (3, 0x10),
     (3, 0x11),
+    (26, COPY),
 ];
 
 /// Commands on a drive whose parameters are pending; Format Drive brings it on.
@@ -218,6 +219,8 @@ struct Draft {
     drive: usize,
     address: u32,
     fifth: u8,
+    /// A Copy's, with its spare byte.
+    destination: Option<(Place, u8)>,
     control: u8,
     given: Vec<u8>,
     handed_over: usize,
@@ -315,6 +318,7 @@ impl Caller {
             0x0F => draft.given = self.random.bytes(512),
             0x10 => draft.handed_over = 512,
             0x11 => self.initialize(&mut draft),
+            COPY => self.copy(&mut draft, &geometry),
             _ => {}
         }
         draft
@@ -325,7 +329,7 @@ impl Caller {
         let noise = if self.random.chance(30) { self.random.number() as u32 } else { 0 };
         let control = match opcode {
             0x04 | 0x06 | 0x0E => self.random.weighted(&[(5, 0), (4, 0x20), (1, 0xA0), (1, 0x80)]),
-            0x05..=0x0B => self.random.weighted(&[(5, 0), (1, 0x80)]),
+            0x05..=0x0B | COPY => self.random.weighted(&[(5, 0), (1, 0x80)]),
             _ => noise as u8,
         };
         Draft {
@@ -333,6 +337,7 @@ impl Caller {
             drive,
             address: noise >> 11,
             fifth: (noise >> 3) as u8,
+            destination: None,
             control,
             given: Vec::new(),
             handed_over: 0,
@@ -435,6 +440,86 @@ impl Caller {
         draft.fifth = if self.random.chance(90) { count.min(left.max(1)) } else { count } as u8;
     }
 
+    /// A Copy from the draft's drive: short ones, as much as fits, and one more.
+    fn copy(&mut self, draft: &mut Draft, from: &Geometry) {
+        let drive = self.destination(draft.drive);
+        let to = self.believed(drive).unwrap_or_else(|| one_track(Kind::of(drive)));
+        let mut copy = CopyBlocks {
+            source: self.copy_place(draft.drive, from),
+            destination: self.copy_place(drive, &to),
+            count: 1,
+        };
+        copy.count = self.copy_count(&copy, from, &to);
+        copy.destination.address = self.destination_address(&copy, from, &to);
+        draft.address = copy.source.address;
+        draft.fifth = copy.count as u8;
+        draft.destination = Some((copy.destination, self.random.byte()));
+    }
+
+    /// The destination of a Copy: mostly a drive that is formatted, often the source itself.
+    fn destination(&mut self, source: usize) -> usize {
+        if self.random.chance(30) {
+            return source;
+        }
+        let formatted = |drive: &usize| {
+            let pending = self.beliefs[*drive].pending;
+            *drive != source && !pending && self.believed(*drive).is_some()
+        };
+        let others: Vec<usize> = (0..4).filter(formatted).collect();
+        if others.is_empty() || self.random.chance(10) {
+            return self.random.size_below(4);
+        }
+        self.random.pick(&others)
+    }
+
+    /// Where a Copy begins on a drive: anywhere, or so that it soon gets to a track with a past.
+    fn copy_place(&mut self, drive: usize, geometry: &Geometry) -> Place {
+        let address = if self.random.chance(60) {
+            self.address(drive, geometry)
+        } else {
+            let start = self.track(drive, geometry) * geometry.sectors;
+            start.saturating_sub(1 + self.random.below(5))
+        };
+        Place { drive, address }
+    }
+
+    /// How many source sectors: mostly as many as both drives have room for.
+    fn copy_count(&mut self, copy: &CopyBlocks, from: &Geometry, to: &Geometry) -> u32 {
+        let left = from.addresses().saturating_sub(copy.source.address);
+        let room = to.addresses().saturating_sub(copy.destination.address) as usize * to.data;
+        let left = left.min((room / from.data) as u32).clamp(1, 256);
+        let count = match self.random.below(100) {
+            0..=49 => 1 + self.random.below(6),
+            50..=69 => 1 + self.random.below(from.sectors + 5),
+            70..=84 => left,
+            85..=89 => left + 1,
+            90..=94 => 256,
+            _ => 1 + self.random.below(256),
+        };
+        count.min(if self.random.chance(90) { left } else { 256 })
+    }
+
+    /// Where a Copy of so many sectors goes: within a drive, mostly just beside the source or one
+    /// sector into it; sometimes up to the drive's end or past it.
+    fn destination_address(&mut self, copy: &CopyBlocks, from: &Geometry, to: &Geometry) -> u32 {
+        let (address, count) = (copy.source.address, copy.count);
+        if copy.source.drive == copy.destination.drive && self.random.chance(60) {
+            let beside = [
+                (address + count) as i64,
+                address as i64 - count as i64,
+                (address + count) as i64 - 1,
+                address as i64 - count as i64 + 1,
+                address as i64,
+            ];
+            return self.random.pick(&beside).max(0) as u32;
+        }
+        if self.random.chance(10) {
+            let first = to.addresses().saturating_sub(copy.destination_count(from, to));
+            return first + self.random.weighted(&[(3, 0), (1, 1)]);
+        }
+        copy.destination.address
+    }
+
     fn assign(&mut self, draft: &mut Draft, geometry: &Geometry) {
         draft.address = self.address(draft.drive, geometry);
         draft.fifth = self.interleave(geometry);
@@ -490,9 +575,14 @@ impl Caller {
 
     /// The call with lengths of given data and area that are mostly enough.
     fn step_of(&mut self, draft: Draft) -> Step {
-        let [_, high, middle, low] = draft.address.to_be_bytes();
-        let second = (draft.drive as u8) << 5 | high & 0x1F;
-        let block = vec![draft.opcode, second, middle, low, draft.fifth, draft.control];
+        let mut block = vec![draft.opcode];
+        block.extend(place_bytes(draft.drive, draft.address));
+        block.push(draft.fifth);
+        if let Some((Place { drive, address }, spare)) = draft.destination {
+            block.extend(place_bytes(drive, address));
+            block.push(spare);
+        }
+        block.push(draft.control);
         let mut given = draft.given;
         let length = self.about(given.len());
         if length <= given.len() {
@@ -522,7 +612,11 @@ impl Caller {
         let Call::Execute { block, given } = &mut step.call else {
             return;
         };
-        match random.below(12) {
+        if block[0] == COPY && random.chance(60) {
+            spoil_copy(random, block);
+            return;
+        }
+        match random.below(13) {
             0 => block.truncate(random.size_below(6)),
             1 => block.extend([0; 5].iter().take(1 + random.size_below(5))),
             2 => block[1] |= 0x80,
@@ -534,6 +628,7 @@ impl Caller {
             8 => block[1] ^= 0x20 << random.below(2),
             9 => given.truncate(random.size_below(given.len() + 1)),
             10 => step.area.truncate(random.size_below(step.area.len() + 1)),
+            11 => block[0] = COPY,
             _ => *given = random.bytes(given.len()),
         }
     }
@@ -556,6 +651,27 @@ impl Caller {
             }
         }
     }
+}
+
+/// Changes one thing of a Copy's block that other blocks do not have.
+fn spoil_copy(random: &mut Random, block: &mut Vec<u8>) {
+    match random.below(9) {
+        0 => block.truncate(6),
+        1 => block.truncate(9),
+        2 => block.push(0),
+        3 => block[0] = random.pick(&OPCODES),
+        4 => block[4] = 0,
+        5 => block[5] |= 0x80,
+        6 => block[5] ^= 0x20 << random.below(2),
+        7 => block[9] |= 1 << random.below(8),
+        _ => (block[1], block[5]) = (block[5] | 0x80, block[1] | 0x80),
+    }
+}
+
+/// A drive and an address as blocks have them.
+fn place_bytes(drive: usize, address: u32) -> [u8; 3] {
+    let [_, high, middle, low] = address.to_be_bytes();
+    [(drive as u8) << 5 | high & 0x1F, middle, low]
 }
 
 fn sectors(count: u8) -> usize {

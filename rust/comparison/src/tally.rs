@@ -4,9 +4,10 @@ use std::collections::BTreeMap;
 use std::fmt;
 use std::ops::AddAssign;
 
+use crate::copies::{self, Side};
 use crate::duplicates;
 use crate::engine::Call;
-use crate::paper::{Geometry, Kind, Request, LABEL};
+use crate::paper::{Geometry, Kind, Request, COPY, LABEL};
 use crate::plain::{Answer, Drive};
 
 /// The sense codes of document 01.
@@ -14,13 +15,14 @@ pub const CODES: [u8; 16] = [
     0x04, 0x0A, 0x10, 0x12, 0x14, 0x15, 0x16, 0x19, 0x1A, 0x1C, 0x1D, 0x1E, 0x1F, 0x20, 0x21, 0x22,
 ];
 
-/// The commands of document 01.
-pub const OPCODES: [u8; 14] =
-    [0x00, 0x01, 0x03, 0x04, 0x05, 0x06, 0x07, 0x08, 0x0A, 0x0B, 0x0E, 0x0F, 0x10, 0x11];
+/// The commands of document 01, and Copy.
+pub const OPCODES: [u8; 15] =
+    [0x00, 0x01, 0x03, 0x04, 0x05, 0x06, 0x07, 0x08, 0x0A, 0x0B, 0x0E, 0x0F, 0x10, 0x11, COPY];
 
 /// What a call that names a drive can come to. Commands are given by their opcodes.
 #[derive(Clone, Copy, Debug, PartialEq, Eq, PartialOrd, Ord)]
 pub enum Event {
+    /// Of a command of six bytes.
     Code(u8),
     /// Numbers 2 and 3.
     Number(u8),
@@ -38,6 +40,22 @@ pub enum Event {
         opcode: u8,
         present: bool,
     },
+    /// A Copy that ended well, by the sizes of source and destination sectors.
+    Copied((usize, usize)),
+    /// Within one drive.
+    CopiedWithin,
+    /// 22h because both sides share a sector.
+    Overlap,
+    /// 23h, by the sizes.
+    Completed((usize, usize)),
+    /// The code of a Copy, by the side that failed.
+    CopyCode(Side, u8),
+    /// A source sector was not found while bytes waited for a destination sector's other bytes.
+    BytesWaiting,
+    /// A destination sector was not found whose bytes begin within a source sector.
+    WithinSector,
+    /// A sector of this side was not found, and later on one of the other side would not have been.
+    BothFail(Side),
     /// A transfer, compared whole, of a sector that two or more slots hold, by its way.
     Duplicate(usize),
     /// A sector whose bytes were looked up in the image at the end of a list.
@@ -54,7 +72,13 @@ impl Event {
             &[Event::Settled, Event::Pending, Event::OtherKind],
             &[0x04, 0x06].map(Event::BitFive),
             &[0x05, 0x0E].map(refused).concat(),
-            &[0, 1, 2, 3].map(Event::Duplicate),
+            &copies::SIZES.map(Event::Copied),
+            &copies::SIZES.map(Event::Completed),
+            &[Event::CopiedWithin, Event::Overlap],
+            &Side::ALL.map(|side| copies::CODES.map(|code| Event::CopyCode(side, code))).concat(),
+            &[Event::BytesWaiting, Event::WithinSector],
+            &Side::ALL.map(Event::BothFail),
+            &std::array::from_fn::<_, { duplicates::WAYS.len() }, _>(Event::Duplicate),
             &[Event::LookedUp],
         ]
         .concat()
@@ -73,6 +97,10 @@ impl Event {
             Event::Code(0x1C | 0x1D) => !(fresh && floppy),
             // On hard disks Assign Alternate has a 22h of its own.
             Event::Refused { opcode, present } => floppy || (opcode == 0x0E && present),
+            // A floppy's sectors have 128 bytes, a hard disk's more.
+            Event::Copied((from, _)) => (from == 128) == floppy,
+            Event::Completed((from, to)) => (from == 128) == floppy && from < to,
+            Event::CopyCode(_, code) => Event::Code(code).is_possible(starts, kind),
             Event::Duplicate(_) => !fresh,
             Event::LookedUp => fresh,
             _ => true,
@@ -92,6 +120,14 @@ impl fmt::Display for Event {
             Event::BitFive(opcode) => format!("{opcode:02X}h good with bit 5"),
             Event::Refused { opcode, present: true } => format!("{opcode:02X}h is 22h, present"),
             Event::Refused { opcode, present: false } => format!("{opcode:02X}h is 22h, absent"),
+            Event::Copied((from, to)) => format!("20h good, {from} to {to}"),
+            Event::Completed((from, to)) => format!("20h is 23h, {from} to {to}"),
+            Event::CopiedWithin => "20h good within a drive".to_string(),
+            Event::Overlap => "20h is 22h by overlap".to_string(),
+            Event::CopyCode(side, code) => format!("20h, {side}: {code:02X}h"),
+            Event::BytesWaiting => "20h, source, bytes waiting".to_string(),
+            Event::WithinSector => "20h, destination, midway".to_string(),
+            Event::BothFail(side) => format!("20h, both, {side} first"),
             Event::Duplicate(way) => format!("duplicate: {}", duplicates::WAYS[*way]),
             Event::LookedUp => "looked up".to_string(),
         };
@@ -115,6 +151,9 @@ pub struct Tally {
     pub resets: u64,
     /// Number 1: the block names no drive.
     pub no_block: u64,
+    /// Among these, six bytes that begin with 20h, and ten that do not.
+    pub short_copies: u64,
+    pub long_others: u64,
     events: [BTreeMap<Event, u64>; Kind::ALL.len()],
 }
 
@@ -124,6 +163,8 @@ impl AddAssign<&Tally> for Tally {
         self.calls += other.calls;
         self.resets += other.resets;
         self.no_block += other.no_block;
+        self.short_copies += other.short_copies;
+        self.long_others += other.long_others;
         for kind in Kind::ALL {
             for (&event, &count) in &other.events[kind as usize] {
                 self.add(kind, event, count);
@@ -141,13 +182,13 @@ impl Tally {
         self.events[kind as usize].get(&event).copied().unwrap_or(0)
     }
 
-    /// Counts a call by its answer, the drives that it left and the lengths of their images.
+    /// Counts a call by its answer, and by the drives and images that it left.
     pub fn count(
         &mut self,
         call: &Call,
         answer: &Answer,
         drives: &[Drive; 4],
-        lengths: [usize; 4],
+        images: &[Vec<u8>; 4],
     ) {
         self.calls += 1;
         let Call::Execute { block, given } = call else {
@@ -155,11 +196,17 @@ impl Tally {
             return;
         };
         if answer.number == 1 {
-            self.no_block += 1;
+            self.count_no_block(block);
+            return;
+        }
+        if block[0] == COPY {
+            for (kind, event) in copies::Ended::new(block, answer, drives, images).events() {
+                self.add(kind, event, 1);
+            }
             return;
         }
         let request = Request::read(block);
-        let (drive, length) = (&drives[request.drive], lengths[request.drive]);
+        let (drive, length) = (&drives[request.drive], images[request.drive].len());
         let mut reached = |event| self.add(request.kind(), event, 1);
         if answer.number != 0 {
             reached(Event::Number(answer.number));
@@ -175,10 +222,19 @@ impl Tally {
         }
     }
 
+    fn count_no_block(&mut self, block: &[u8]) {
+        self.no_block += 1;
+        let is_copy = block.first() == Some(&COPY);
+        self.short_copies += u64::from(is_copy && block.len() == 6);
+        self.long_others += u64::from(!is_copy && block.len() == 10);
+    }
+
     /// Totals by name.
-    fn totals(&self) -> [(&'static str, u64); 4] {
+    fn totals(&self) -> [(&'static str, u64); 6] {
         [
             ("number 1", self.no_block),
+            ("number 1, six bytes, 20h", self.short_copies),
+            ("number 1, ten bytes, not 20h", self.long_others),
             ("resets", self.resets),
             ("calls", self.calls),
             ("starts", self.starts),

@@ -1,12 +1,13 @@
 //! What the comparison catches: any change of an outcome, engines that use another slot than the
-//! first of those that hold a sector, and engines that take floppies for something else.
+//! first of those that hold a sector, engines that take floppies for something else, and engines
+//! that copy in another way.
 
 use std::time::{Duration, Instant};
 
 use comparison::compare::{self, Bounds};
 use comparison::engine::{Call, Engine};
 use comparison::outcome::{Outcome, Setting};
-use comparison::paper::{self, Condition, Config, Geometry, Kind};
+use comparison::paper::{self, Condition, Config, CopyBlocks, Fault, Geometry, Kind, Place};
 use comparison::plain::{Answer, Controller, Drive};
 use comparison::random::{self, Random, Scale};
 use comparison::tally::{Event, Tally};
@@ -223,10 +224,11 @@ impl Lent<'_> {
 type Command = fn(&mut Controller, Lent) -> Answer;
 type Reset = fn(&mut Controller, [&[u8]; 4]) -> Answer;
 
-/// The plain engine made wrong: commands of six bytes, or Reset, are done in another way.
+/// The plain engine made wrong: commands of six bytes, or of ten, or Reset, are done in another way.
 struct Wrong {
     engine: Controller,
-    command: Command,
+    six: Command,
+    ten: Command,
     reset: Reset,
 }
 
@@ -243,10 +245,10 @@ impl Engine for Wrong {
         images: [&mut [u8]; 4],
     ) -> Answer {
         let mut lent = Lent { block, given, area, images };
-        if block.len() == 6 {
-            (self.command)(&mut self.engine, lent)
-        } else {
-            lent.right(&mut self.engine)
+        match block.len() {
+            6 => (self.six)(&mut self.engine, lent),
+            10 => (self.ten)(&mut self.engine, lent),
+            _ => lent.right(&mut self.engine),
         }
     }
 
@@ -349,9 +351,359 @@ fn resets_drive_3_from_image_2(engine: &mut Controller, images: [&[u8]; 4]) -> A
     engine.reset([images[0], images[1], images[2], images[2]])
 }
 
+/// A Copy with what it is lent, and what that was before.
+struct CopyLent<'a> {
+    lent: Lent<'a>,
+    copy: CopyBlocks,
+    engine: Controller,
+    images: [Vec<u8>; 4],
+}
+
+/// What the right engine answered; the fault that the source's sense tells, if it is one.
+struct Ended {
+    answer: Answer,
+    code: u8,
+    address: u32,
+}
+
+impl<'a> CopyLent<'a> {
+    fn new(engine: &Controller, lent: Lent<'a>) -> CopyLent<'a> {
+        let images = lent.images.each_ref().map(|image| image.to_vec());
+        CopyLent { copy: CopyBlocks::read(lent.block), engine: engine.clone(), images, lent }
+    }
+
+    /// The copy done rightly.
+    fn right(&mut self, engine: &mut Controller) -> Ended {
+        let answer = self.lent.right(engine);
+        let [code, high, middle, low] = engine.drives[self.copy.source.drive].sense;
+        let failed = answer.number == 0 && answer.status & 2 != 0;
+        Ended {
+            answer,
+            code: if failed { code & 0x7F } else { 0 },
+            address: u32::from_be_bytes([0, high & 0x1F, middle, low]),
+        }
+    }
+
+    fn geometry(&self, place: Place) -> Geometry {
+        let (record, image) = (&self.engine.drives[place.drive], &self.images[place.drive]);
+        let geometry = Geometry::read(Kind::of(place.drive), &record.config, image.len());
+        geometry.expect("the copy passed its checks")
+    }
+
+    fn sizes(&self) -> (u32, u32) {
+        let [from, to] = [self.copy.source, self.copy.destination].map(|at| self.geometry(at));
+        (from.data as u32, to.data as u32)
+    }
+
+    /// The data of a place in its image, or the fault.
+    fn slot(&self, place: Place) -> Result<std::ops::Range<usize>, Fault> {
+        let geometry = self.geometry(place);
+        let (track, sector) = geometry.split(place.address);
+        paper::found_slot(&self.images[place.drive], &geometry, track, sector)
+            .map_err(|code| place.fault(code))
+    }
+
+    /// The last destination sector of a copy that was to be done whole.
+    fn last(&self) -> Place {
+        let (from, to) = self.sizes();
+        self.copy.destination.further((self.copy.count * from).div_ceil(to) - 1)
+    }
+
+    /// The source sectors whose bytes so many destination sectors have.
+    fn read_for(&self, sectors: u16) -> u32 {
+        let (from, to) = self.sizes();
+        self.copy.count.min((u32::from(sectors) * to).div_ceil(from))
+    }
+
+    /// Whether a code is one of finding a sector of the source.
+    fn is_source_fault(&self, engine: &Controller, ended: &Ended) -> bool {
+        let named = usize::from(engine.drives[self.copy.source.drive].sense[1] >> 5);
+        let range = self.copy.source.address..self.copy.source.address + self.copy.count;
+        is_finding(ended.code) && named == self.copy.source.drive && range.contains(&ended.address)
+    }
+
+    /// Nothing was done, and it ends with this fault.
+    fn fails(&mut self, engine: &mut Controller, fault: Fault) -> Answer {
+        for (image, before) in self.lent.images.iter_mut().zip(&self.images) {
+            image.copy_from_slice(before);
+        }
+        engine.clone_from(&self.engine);
+        engine.drives[self.copy.source.drive].sense = paper::sense(fault);
+        Answer { status: 32 * self.copy.source.drive as u8 + 2, ..Answer::default() }
+    }
+}
+
+fn is_finding(code: u8) -> bool {
+    matches!(code, 0x10..=0x15 | 0x19 | 0x1C | 0x1E)
+}
+
+/// Whether sectors were searched for.
+fn passed_checks(ended: &Ended) -> bool {
+    ended.answer.number == 0 && (matches!(ended.code, 0 | 0x23) || is_finding(ended.code))
+}
+
+type CopyCommand = fn(&mut Controller, CopyLent) -> Answer;
+
+/// A copy that is done in another way; ten bytes that are none are refused rightly.
+fn wrong_copy(engine: &mut Controller, mut lent: Lent, copy: CopyCommand) -> Answer {
+    if lent.block[0] == 0x20 {
+        copy(engine, CopyLent::new(engine, lent))
+    } else {
+        lent.right(engine)
+    }
+}
+
+/// Bytes that wait at a source fault are written, with zeros.
+fn partial_at_fault(engine: &mut Controller, mut copy: CopyLent) -> Answer {
+    let ended = copy.right(engine);
+    if copy.is_source_fault(engine, &ended) && ended.address > copy.copy.source.address {
+        let before = engine.clone();
+        let count = ended.address - copy.copy.source.address;
+        copy.lent.with_byte(engine, 4, count as u8);
+        *engine = before;
+    }
+    ended.answer
+}
+
+fn source_counted(engine: &mut Controller, mut copy: CopyLent) -> Answer {
+    let mut ended = copy.right(engine);
+    if passed_checks(&ended) {
+        ended.answer.sectors = copy.read_for(ended.answer.sectors) as u16;
+    }
+    ended.answer
+}
+
+fn sense_in_destination(engine: &mut Controller, mut copy: CopyLent) -> Answer {
+    let (source, destination) = (copy.copy.source.drive, copy.copy.destination.drive);
+    let ended = copy.right(engine);
+    let sense = engine.drives[source].sense;
+    engine.drives[source].sense = copy.engine.drives[source].sense;
+    engine.drives[destination].sense = sense;
+    ended.answer
+}
+
+/// Without the zeros: the last sector's rest stays as it was.
+fn rest_left(engine: &mut Controller, mut copy: CopyLent) -> Answer {
+    let ended = copy.right(engine);
+    if ended.code == 0x23 {
+        let (from, to) = copy.sizes();
+        let slot = copy.slot(copy.last()).expect("it was written");
+        let rest = slot.start + (copy.copy.count * from % to) as usize..slot.end;
+        let drive = copy.copy.destination.drive;
+        copy.lent.images[drive][rest.clone()].copy_from_slice(&copy.images[drive][rest]);
+    }
+    ended.answer
+}
+
+/// 23h in place of the write.
+fn not_completed(engine: &mut Controller, mut copy: CopyLent) -> Answer {
+    let mut ended = copy.right(engine);
+    if ended.code == 0x23 {
+        let (last, drive) = (copy.last(), copy.copy.destination.drive);
+        let slot = copy.slot(last).expect("it was written");
+        copy.lent.images[drive][slot.clone()].copy_from_slice(&copy.images[drive][slot]);
+        engine.buffer = copy.engine.buffer;
+        ended.answer.sectors -= 1;
+        if ended.answer.sectors > 0 {
+            let previous = copy.slot(Place { address: last.address - 1, ..last });
+            let bytes = &copy.lent.images[drive][previous.expect("it was written")];
+            engine.buffer[..bytes.len()].copy_from_slice(bytes);
+        }
+    }
+    ended.answer
+}
+
+fn not_counted(engine: &mut Controller, mut copy: CopyLent) -> Answer {
+    let mut ended = copy.right(engine);
+    ended.answer.sectors -= u16::from(ended.code == 0x23);
+    ended.answer
+}
+
+/// A completed sector is no error.
+fn no_23h(engine: &mut Controller, mut copy: CopyLent) -> Answer {
+    let mut ended = copy.right(engine);
+    if ended.code == 0x23 {
+        let source = copy.copy.source.drive;
+        engine.drives[source].sense = paper::good_sense(source);
+        ended.answer.status -= 2;
+    }
+    ended.answer
+}
+
+/// The whole source is read first: a fault there leaves nothing written.
+fn whole_source_first(engine: &mut Controller, mut copy: CopyLent) -> Answer {
+    let ended = copy.right(engine);
+    if passed_checks(&ended) {
+        let mut sectors = (0..copy.copy.count).map(|k| copy.slot(copy.copy.source.further(k)));
+        if let Some(fault) = sectors.find_map(Result::err) {
+            return copy.fails(engine, fault);
+        }
+    }
+    ended.answer
+}
+
+/// A destination sector is searched for before all its bytes are read.
+fn searched_early(engine: &mut Controller, mut copy: CopyLent) -> Answer {
+    let ended = copy.right(engine);
+    if copy.is_source_fault(engine, &ended) {
+        let next = copy.copy.destination.further(u32::from(ended.answer.sectors));
+        let in_range = next.address <= copy.last().address;
+        if let Some(fault) = copy.slot(next).err().filter(|_| in_range) {
+            engine.drives[copy.copy.source.drive].sense = paper::sense(fault);
+        }
+    }
+    ended.answer
+}
+
+/// Both sides may share one sector.
+fn overlap_of_one(engine: &mut Controller, mut copy: CopyLent) -> Answer {
+    let ended = copy.right(engine);
+    let CopyBlocks { source, destination, count } = copy.copy;
+    let apart = source.address.abs_diff(destination.address);
+    let in_order = copy.lent.block[5] < 0x80 && copy.lent.block[1] < 0x80;
+    let overlaps = ended.code == 0x22 && in_order && copy.lent.block[9] & 0x7F == 0;
+    if !overlaps || apart == 0 || apart != count - 1 {
+        return ended.answer;
+    }
+    let mut answer = ended.answer;
+    for k in 0..count {
+        let block = copy_block(source.further(k), 1, destination.further(k));
+        let one = copy.lent.instead(engine, &block, &[]);
+        (answer.status, answer.sectors) = (one.status, answer.sectors + one.sectors);
+        if answer.status & 2 != 0 {
+            break;
+        }
+    }
+    answer
+}
+
+fn copy_block(from: Place, count: u8, to: Place) -> [u8; 10] {
+    let bytes = |place: Place| {
+        let [_, high, middle, low] = place.address.to_be_bytes();
+        [32 * place.drive as u8 + high, middle, low]
+    };
+    let ([s1, s2, s3], [d1, d2, d3]) = (bytes(from), bytes(to));
+    [0x20, s1, s2, s3, count, d1, d2, d3, 0, 0]
+}
+
+/// Sides that touch are taken for an overlap.
+fn adjacent_refused(engine: &mut Controller, mut copy: CopyLent) -> Answer {
+    let ended = copy.right(engine);
+    let CopyBlocks { source, destination, count } = copy.copy;
+    let adjacent =
+        source.drive == destination.drive && source.address.abs_diff(destination.address) == count;
+    if adjacent && passed_checks(&ended) {
+        return copy.fails(engine, source.fault(0x22));
+    }
+    ended.answer
+}
+
+/// The destination's place is checked, as Seek checks it, before the source.
+fn destination_first(engine: &mut Controller, mut copy: CopyLent) -> Answer {
+    let seek = [&[0x0B], &copy.lent.block[5..8], &[0, 0]].concat();
+    let mut checked = engine.clone();
+    if copy.lent.instead(&mut checked, &seek, &[]).status & 2 == 0 {
+        return copy.right(engine).answer;
+    }
+    let source = copy.copy.source.drive;
+    engine.drives[source].sense = checked.drives[copy.copy.destination.drive].sense;
+    Answer { status: 32 * source as u8 + 2, ..Answer::default() }
+}
+
+/// Byte 5's bit 7 is looked at with byte 1's.
+fn bits_first(engine: &mut Controller, mut copy: CopyLent) -> Answer {
+    let block = copy.lent.block;
+    if block[1] < 0x80 && block[9] & 0x7F == 0 && block[5] >= 0x80 {
+        let fault = copy.copy.destination.fault(0x22);
+        return copy.fails(engine, fault);
+    }
+    copy.right(engine).answer
+}
+
+/// Codes without an address name the source.
+fn source_named(engine: &mut Controller, mut copy: CopyLent) -> Answer {
+    let ended = copy.right(engine);
+    if matches!(ended.code, 0x04 | 0x0A | 0x16 | 0x22) {
+        let source = copy.copy.source.drive;
+        engine.drives[source].sense[1] = 32 * source as u8;
+    }
+    ended.answer
+}
+
+fn buffer_has_source(engine: &mut Controller, mut copy: CopyLent) -> Answer {
+    let ended = copy.right(engine);
+    if ended.answer.sectors > 0 {
+        let read = copy.read_for(ended.answer.sectors);
+        let slot = copy.slot(copy.copy.source.further(read - 1)).expect("it was read");
+        let bytes = &copy.images[copy.copy.source.drive][slot];
+        engine.buffer = copy.engine.buffer;
+        engine.buffer[..bytes.len()].copy_from_slice(bytes);
+    }
+    ended.answer
+}
+
+/// The control byte is read where the spare one is.
+fn spare_controls(engine: &mut Controller, mut copy: CopyLent) -> Answer {
+    let mut block = copy.lent.block.to_vec();
+    block.swap(8, 9);
+    copy.lent.instead(engine, &block, &[])
+}
+
+fn count_0_is_1(engine: &mut Controller, mut copy: CopyLent) -> Answer {
+    if copy.lent.block[4] == 0 {
+        return copy.lent.with_byte(engine, 4, 1);
+    }
+    copy.right(engine).answer
+}
+
+/// A Copy of six bytes is an unknown command.
+fn six_bytes_taken(engine: &mut Controller, mut lent: Lent) -> Answer {
+    if lent.block[0] == 0x20 {
+        return lent.with_byte(engine, 0, 0x0D);
+    }
+    lent.right(engine)
+}
+
+/// Any block may have ten bytes.
+fn ten_bytes_taken(engine: &mut Controller, mut lent: Lent) -> Answer {
+    let length = if lent.block[0] == 0x20 { 10 } else { 6 };
+    lent.instead(engine, &lent.block[..length], lent.given)
+}
+
+#[test]
+fn wrong_copies_are_caught() {
+    let commands: [(&str, Command); 18] = [
+        ("a partial sector at a source fault", |e, lent| wrong_copy(e, lent, partial_at_fault)),
+        ("source sectors counted", |e, lent| wrong_copy(e, lent, source_counted)),
+        ("sense in the destination's place", |e, lent| wrong_copy(e, lent, sense_in_destination)),
+        ("no zeros in the last sector", |e, lent| wrong_copy(e, lent, rest_left)),
+        ("23h in place of the write", |e, lent| wrong_copy(e, lent, not_completed)),
+        ("the sector of 23h not counted", |e, lent| wrong_copy(e, lent, not_counted)),
+        ("no 23h", |e, lent| wrong_copy(e, lent, no_23h)),
+        ("the whole source read first", |e, lent| wrong_copy(e, lent, whole_source_first)),
+        ("a destination sector searched early", |e, lent| wrong_copy(e, lent, searched_early)),
+        ("an overlap of one sector", |e, lent| wrong_copy(e, lent, overlap_of_one)),
+        ("no adjacent sides", |e, lent| wrong_copy(e, lent, adjacent_refused)),
+        ("the destination checked first", |e, lent| wrong_copy(e, lent, destination_first)),
+        ("byte 5's bit checked with byte 1's", |e, lent| wrong_copy(e, lent, bits_first)),
+        ("codes that name the source", |e, lent| wrong_copy(e, lent, source_named)),
+        ("a source sector in the buffer", |e, lent| wrong_copy(e, lent, buffer_has_source)),
+        ("control in the spare byte", |e, lent| wrong_copy(e, lent, spare_controls)),
+        ("a count of 0 is 1", |e, lent| wrong_copy(e, lent, count_0_is_1)),
+        ("ten bytes of another command", ten_bytes_taken),
+    ];
+    let engines = commands.map(|(name, ten)| (name, as_it_should as Command, ten));
+    let six_bytes = ("six bytes of a Copy", six_bytes_taken as Command, as_it_should as Command);
+    for (name, six, ten) in engines.into_iter().chain([six_bytes]) {
+        let [lists, damaged] = both_comparisons(six, ten, Controller::reset);
+        println!("{name}: lists: {}", lists.expect_err(name));
+        println!("{name}: damaged: {}", damaged.expect_err(name));
+    }
+}
+
 /// What the comparison says of an engine, on lists and on damaged images.
-fn both_comparisons(command: Command, reset: Reset) -> [Result<(), String>; 2] {
-    let make = |record: &Controller| Wrong { engine: record.clone(), command, reset };
+fn both_comparisons(six: Command, ten: Command, reset: Reset) -> [Result<(), String>; 2] {
+    let make = |record: &Controller| Wrong { engine: record.clone(), six, ten, reset };
     let all_made = |tally: Tally| assert_eq!(tally.starts, 1_000, "all starts were made");
     let lists = compare::lists(&make, Scale::Small, bounds(1_000)).map(all_made);
     [lists, compare::damaged(&make, Scale::Small, bounds(1_000)).map(all_made)]
@@ -359,7 +711,8 @@ fn both_comparisons(command: Command, reset: Reset) -> [Result<(), String>; 2] {
 
 #[test]
 fn wrong_floppies_are_caught() {
-    assert_eq!(both_comparisons(as_it_should, Controller::reset), [Ok(()), Ok(())]);
+    let right = both_comparisons(as_it_should, as_it_should, Controller::reset);
+    assert_eq!(right, [Ok(()), Ok(())]);
     let engines: [(&str, Command); 12] = [
         ("6Ch fills floppies", |e, lent| filled_6c(e, lent, &[0x04, 0x06, 0x07])),
         ("6Ch fills a floppy's bad track", |e, lent| filled_6c(e, lent, &[0x07])),
@@ -381,7 +734,7 @@ fn wrong_floppies_are_caught() {
     let commands = engines.map(|(name, command)| (name, command, Controller::reset as Reset));
     let resets = resets.map(|(name, reset)| (name, as_it_should as Command, reset));
     for (name, command, reset) in commands.into_iter().chain(resets) {
-        let [lists, damaged] = both_comparisons(command, reset);
+        let [lists, damaged] = both_comparisons(command, as_it_should, reset);
         println!("{name}: lists: {}", lists.expect_err(name));
         println!("{name}: damaged: {}", damaged.expect_err(name));
     }

@@ -1,9 +1,9 @@
 //! The header's constants under the same names, without `LANTHEWG_` (a test holds them equal).
 
 /// The version of header, wrapper and engine.
-pub const VERSION: &str = "0.5.0";
+pub const VERSION: &str = "0.6.0";
 
-// Byte 0 of a block. Byte 1 has 32 × drive.
+// Byte 0 of a block. Byte 1 has 32 × drive. A block has BLOCK_SIZE bytes, a Copy's COPY_BLOCK_SIZE.
 pub const OPCODE_TEST_READY: u8 = 0x00;
 pub const OPCODE_RECALIBRATE: u8 = 0x01;
 pub const OPCODE_REQUEST_SENSE: u8 = 0x03;
@@ -18,15 +18,60 @@ pub const OPCODE_ASSIGN_ALTERNATE: u8 = 0x0E;
 pub const OPCODE_WRITE_BUFFER: u8 = 0x0F;
 pub const OPCODE_READ_BUFFER: u8 = 0x10;
 pub const OPCODE_INITIALIZE: u8 = 0x11;
+/// Copy Blocks, the one command of two drives. Its block: 0 opcode; 1 to 3 source drive and address,
+/// as in Read; 4 count of source sectors, 0 is 256; 5 to 7 destination drive and address, in the same
+/// form; 8 not looked at; 9 control. It takes no data and hands none over. What differs from every
+/// other command:
+///
+/// - The block has ten bytes ([`COPY_BLOCK_SIZE`]). With six, or any other number, it is refused
+///   ([`REFUSED_BLOCK`]): nothing was copied, and the status is 0.
+/// - Only the image of the **destination** changes, drive `block[5] >> 5 & 3`. That is the one to
+///   flush, after a failure too.
+/// - Status and sense are the **source** drive's. In the sense, byte 1 names the drive that failed,
+///   which may be the other one. The destination drive's sense stays.
+/// - `sectors` counts **destination** sectors, which may be larger or smaller than the source's.
+/// - As with a Write, a Copy that fails midway leaves the sectors that it counts; they are not taken
+///   back.
+/// - [`SENSE_PARTLY_FILLED`] has the error bit in the status, so that the answer is failed, though
+///   every byte of the source was written.
+///
+/// ```
+/// use lanthewg::*;
+///
+/// // A hard disk of one track and a floppy of one track, formatted; a map of 256 bytes at address 31.
+/// let (mut disk, mut floppy) = (vec![0; 8_464], vec![0; 2_192]);
+/// let mut card = Controller::fresh([&disk, &[], &floppy, &[]]);
+/// let mut call = |block: &[u8], given: &[u8]| {
+///     card.execute(block, given, &mut [], [&mut disk, &mut [], &mut floppy, &mut []])
+/// };
+/// assert!(call(&[OPCODE_INITIALIZE, 0, 0, 0, 0, 0], &[0, 1, 1, 0, 1, 0, 0, 0, 0, 11]).is_good());
+/// assert!(call(&[OPCODE_FORMAT_DRIVE, 0, 0, 0, 1, 0], &[]).is_good());
+/// assert!(call(&[OPCODE_INITIALIZE, 64, 0, 0, 0, 0], &[0, 1, 1, 1, 0, 0, 0, 0, 0, 0]).is_good());
+/// assert!(call(&[OPCODE_FORMAT_DRIVE, 64, 0, 0, 1, 0], &[]).is_good());
+/// assert!(call(&[OPCODE_WRITE, 0, 0, 31, 1, 0], &[7; 256]).is_good());
+///
+/// // One sector of the hard disk, drive 0, fills two of the floppy, drive 2, from address 4 on.
+/// let answer = call(&[OPCODE_COPY, 0, 0, 31, 1, 64, 0, 4, 0, 0], &[]);
+/// assert!(answer.is_good());
+/// assert_eq!((answer.status, answer.sectors), (0, 2));
+///
+/// // One sector of the floppy fills half of the hard disk's sector 5. Zeros are behind it.
+/// let answer = call(&[OPCODE_COPY, 64, 0, 4, 1, 0, 0, 5, 0, 0], &[]);
+/// assert!(answer.is_failed());
+/// assert_eq!((answer.status, answer.sectors), (0x42, 1));
+/// assert_eq!(card.drives[2].sense, [SENSE_PARTLY_FILLED + SENSE_ADDRESS, 0, 0, 5]);
+/// ```
+pub const OPCODE_COPY: u8 = 0x20;
 
-/// Number: the block is not six bytes.
+/// Number: the block is not six bytes, where it begins with [`OPCODE_COPY`] not ten.
 pub const REFUSED_BLOCK: u8 = 1;
 /// Number: less data is given than the command takes.
 pub const REFUSED_GIVEN: u8 = 2;
 /// Number: the data area is shorter than what the command hands over.
 pub const REFUSED_AREA: u8 = 3;
 
-/// In the status: the command was taken and failed, and the drive's sense has the code.
+/// In the status: the command was taken and failed, and the drive's sense has the code. (With
+/// [`SENSE_PARTLY_FILLED`] all was written.)
 pub const STATUS_ERROR: u8 = 0x02;
 
 // The codes of a drive's first sense byte.
@@ -61,13 +106,19 @@ pub const SENSE_UNFIT_ALTERNATE: u8 = 0x1F;
 pub const SENSE_UNKNOWN_COMMAND: u8 = 0x20;
 /// An address past the last track.
 pub const SENSE_PAST_END: u8 = 0x21;
-/// A field of the block, an interleave, a configuration.
+/// A field of the block, an interleave, a configuration, a Copy onto its own source.
 pub const SENSE_NOT_VALID: u8 = 0x22;
+/// Copy: all was written. The source did not fill the last sector, whose address is given, and zeros
+/// complete it.
+pub const SENSE_PARTLY_FILLED: u8 = 0x23;
 /// Added to a code: the other three sense bytes have an address.
 pub const SENSE_ADDRESS: u8 = 0x80;
 
 // In bytes.
+/// Of every block but a Copy's.
 pub const BLOCK_SIZE: usize = 6;
+/// Of a block that begins with [`OPCODE_COPY`], and of no other.
+pub const COPY_BLOCK_SIZE: usize = 10;
 /// What Request Sense hands over.
 pub const SENSE_SIZE: usize = 4;
 /// What Initialize takes.

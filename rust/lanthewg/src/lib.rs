@@ -4,6 +4,9 @@
 //! 0, as a good one's is: who forwards the status alone reports a good save that did not happen. Ask
 //! [`Answer::is_good`]; an answer that nobody looks at is a warning.
 //!
+//! **A Copy is another kind of command.** Its block has ten bytes, it changes the image of its second
+//! drive, and one of its failures has written everything: see [`OPCODE_COPY`].
+//!
 //! A [`Controller`] is lent with four disk images to each call, by drive: 0 and 1 are hard disks, 2
 //! and 3 floppies. An image under 16 bytes, so an empty slice too, is an absent drive. Every call is
 //! proved for any record, block, data and images, of any bytes and lengths; borrowing rules out what
@@ -77,11 +80,11 @@ pub struct Controller {
 pub struct Answer {
     /// 0: the command was taken. 1 to 3: it was refused ([`REFUSED_BLOCK`] and so on).
     pub number: u8,
-    /// 32 × drive, and [`STATUS_ERROR`] after a failure. 0 after a refusal.
+    /// 32 × drive (a Copy's source drive), and [`STATUS_ERROR`] after a failure. 0 after a refusal.
     pub status: u8,
     /// Always 0.
     pub message: u8,
-    /// Sectors done.
+    /// Sectors done; by a Copy those of the destination.
     pub sectors: u16,
     /// Bytes handed over, at the front of the data area.
     pub bytes: u32,
@@ -93,7 +96,8 @@ impl Answer {
         self.number == 0 && self.status & STATUS_ERROR == 0
     }
 
-    /// The command was taken and failed: Request Sense tells the console why, and where.
+    /// The command was taken and failed: Request Sense tells the console why, and where. After a Copy
+    /// with [`SENSE_PARTLY_FILLED`] all was written.
     pub const fn is_failed(&self) -> bool {
         self.number == 0 && self.status & STATUS_ERROR != 0
     }
@@ -197,7 +201,8 @@ impl Controller {
     }
 
     /// A command: its block, the data given with it, and the data area for what it hands over. Where
-    /// it is refused, nothing is changed and status is 0.
+    /// it is refused, nothing is changed and status is 0. A block has [`BLOCK_SIZE`] bytes; one that
+    /// begins with [`OPCODE_COPY`] has [`COPY_BLOCK_SIZE`].
     #[inline]
     pub fn execute(
         &mut self,

@@ -47,7 +47,7 @@ fn of_wrapper() -> BTreeMap<String, u64> {
 #[test]
 fn constants_are_the_headers() {
     let header = of_header();
-    assert!(header.len() >= 45, "only {}", header.len());
+    assert!(header.len() >= 48, "only {}", header.len());
     assert_eq!(header, of_wrapper());
 }
 

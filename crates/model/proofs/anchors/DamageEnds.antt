@@ -25,7 +25,7 @@ use Rattle.model.specs.declared.table.SectorCommand.the-variants.{Read, 
 use Rattle.model.specs.Block.{blockOf, countOf}
 use Rattle.model.specs.Checks.{judged}
 use Rattle.model.specs.Sense.{addressed, senseOf}
-use Rattle.model.specs.Record.{sensed, failed, good, unless, Effect}
+use Rattle.model.specs.Record.{sensed, failed, good, Effect, unlessNamed}
 use Rattle.model.specs.Commands.{checkTests, checkTrack, transferEnding, transferred, read, write, doTrack, doSectors, asEffect, doDisk, carryOut}
 use Rattle.model.proofs.anchors.Damage.{p, slot, whole, hurt}
 
@@ -79,10 +79,10 @@ checked :
     × (ends (check 1 without) ≡ stopped 0x9A 0x20 0 1)
     × (ends (check 7 parted) ≡ stopped 0x9E 0x20 0 7)
     × (check 7 parted .image ≡ parted)
-unfolding at check ends stopped unmarked misplaced unflagged without parted p slot whole hurt
-    carryOut doDisk doTrack asEffect checkTrack checkTests judged unless failed good sensed addressed senseOf blockOf
-    checkCode checkedOn idsAre idIs homeState sameBytes everyBelow someBelow isSome firstBelow firstFrom
-    whereOf whereBy takenBy ownId firstId idIn trackBytes slotId part pick withSector idBytes idFor flagOf partnerOf layoutOf laid place layAt emptyFrom
+unfolding at check ends stopped unmarked misplaced unflagged without parted p slot whole hurt carryOut doDisk doTrack asEffect checkTrack checkTests
+    judged unlessNamed failed good sensed addressed senseOf blockOf checkCode checkedOn idsAre idIs homeState sameBytes everyBelow someBelow isSome
+    firstBelow firstFrom whereOf whereBy takenBy ownId firstId idIn trackBytes slotId part pick withSector idBytes idFor flagOf partnerOf layoutOf
+    laid place layAt emptyFrom
 checked = (refl, refl, refl, refl, refl, refl, refl)
 
 -- Sector 0 of track 0 is done where sector 1 is not there; on a moved track its own address counts, not its partner's.

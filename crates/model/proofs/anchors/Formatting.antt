@@ -27,7 +27,7 @@ use Rattle.model.specs.declared.record.Drive.{Drive}
 use Rattle.model.specs.declared.record.Controller.{Controller}
 use Rattle.model.specs.Block.{blockOf, fromBuffer, alternateOf}
 use Rattle.model.specs.Checks.{judged}
-use Rattle.model.specs.Record.{blankDrive, driveAt, unless}
+use Rattle.model.specs.Record.{blankDrive, driveAt, unlessNamed}
 use Rattle.model.specs.Commands.{plainByte, plainFill, fillOf, madeAt, driveFormatted, formatDrive, aloneTests}
 use Rattle.model.specs.Commands.{formatTrack, assignTests, assigned, assignAlternate, doTrack, asEffect, doDisk, carryOut}
 
@@ -87,10 +87,11 @@ formats :
     × (leavesOn 3 FormatBadTrack 3 0 [] ≡ old 34 ++ slot 0xA1 0 0 1 0 1 0 0 0xE5 ++ slot 0xA1 0 0 1 1 1 0 0 0xE5 ++ old 20)
     × (leavesOn 2 FormatDrive 3 0x20 [] ≡ other ++ replicate 6 0 ++ old 18 ++ slot 0xA1 0 0 1 0 0 0 0 0xE5 ++ slot 0xA1 0 0 1 1 0 0 0 0xE5
     ++ slot 0xA1 0 0 2 0 0 0 0 0xE5 ++ slot 0xA1 0 0 2 1 0 0 0 0xE5 ++ old 2)
-unfolding p config other entry controller leavesOn leaves slot old carryOut doDisk doTrack asEffect formatDrive formatTrack assignAlternate assigned driveFormatted madeAt
-    plainByte plainFill fillOf fromBuffer mediumOf isFloppy blockOf alternateOf judged aloneTests assignTests isBad isMoved isTaken unless driveAt blankDrive
-    pairSplit splits stateOf stateBy firstId idIn ownId trackBytes slotId withTrack part splice rows formatted slotsMade slotMade withSector
-    idBytes idFor flagOf partnerOf soundFrom layoutOf laid place layAt emptyFrom someBelow isSome firstBelow firstFrom pick
+unfolding p config other entry controller leavesOn leaves slot old carryOut doDisk doTrack asEffect formatDrive formatTrack assignAlternate assigned
+    driveFormatted madeAt plainByte plainFill fillOf fromBuffer mediumOf isFloppy blockOf alternateOf judged aloneTests assignTests isBad isMoved
+    isTaken unlessNamed driveAt blankDrive pairSplit splits stateOf stateBy firstId idIn ownId trackBytes slotId withTrack part splice rows formatted
+    slotsMade slotMade withSector idBytes idFor flagOf partnerOf soundFrom layoutOf laid place layAt emptyFrom someBelow isSome firstBelow firstFrom
+    pick
 formats = (refl, refl, refl, refl, refl, refl, refl, refl, refl, refl)
 
 -- ---- With four sectors a track and interleave 3: sectors 0, 3, 2, 1 are in slots 0, 1, 2, 3 of every track that is made
@@ -113,10 +114,11 @@ interleaved :
     -- both tracks of an assignment
     × (makes AssignAlternate 1 (0 ∷ 0 ∷ 9 ∷ []) ≡ old 16 ++ track-of 0 2 2 ++ old 36 ++ track-of 2 3 0)
     × (makes FormatDrive 5 [] ≡ config ++ replicate 6 0 ++ old 36 ++ track-of 1 0 0 ++ track-of 2 0 0)
-unfolding q config other entry controller makes track-of slot old carryOut doDisk doTrack asEffect formatDrive formatTrack assignAlternate assigned driveFormatted madeAt
-    plainByte plainFill fillOf fromBuffer mediumOf isFloppy blockOf alternateOf judged aloneTests assignTests isBad isMoved isTaken unless driveAt blankDrive
-    pairSplit splits stateOf stateBy firstId idIn ownId trackBytes slotId withTrack part splice rows formatted slotsMade slotMade withSector
-    idBytes idFor flagOf partnerOf soundFrom layoutOf laid place layAt emptyFrom someBelow isSome firstBelow firstFrom pick
+unfolding q config other entry controller makes track-of slot old carryOut doDisk doTrack asEffect formatDrive formatTrack assignAlternate assigned
+    driveFormatted madeAt plainByte plainFill fillOf fromBuffer mediumOf isFloppy blockOf alternateOf judged aloneTests assignTests isBad isMoved
+    isTaken unlessNamed driveAt blankDrive pairSplit splits stateOf stateBy firstId idIn ownId trackBytes slotId withTrack part splice rows formatted
+    slotsMade slotMade withSector idBytes idFor flagOf partnerOf soundFrom layoutOf laid place layAt emptyFrom someBelow isSome firstBelow firstFrom
+    pick
 interleaved = (refl, refl, refl, refl)
 
 -- Track 1 made bad, on a stretch of five slots with interleave 2: after each number of steps the slots so far are there, whole and

@@ -11,11 +11,11 @@ use Rattle.geometry.specs.Medium.{mediumOf, isIn, rangesOf}
 use Rattle.geometry.specs.Config.{sizeFor, fittedTo, fieldsIn, settingBy, settingOf, isValid, labelSetting, labelHolds}
 use Rattle.model.specs.declared.record.Drive.{Drive}
 use Rattle.model.specs.declared.record.Controller.{Controller}
-use Rattle.model.specs.Block.{blockOf}
+use Rattle.model.specs.Block.{blockOf, isWhole, blockLength, isCopy}
 use Rattle.model.specs.Table.{checkNumber, isAmong, rowFor}
 use Rattle.model.specs.Checks.{judged, presentWith, isUnknown, blockWrong, bytesOf, hitsOf, inOrder, judge}
 use Rattle.model.specs.Sense.{addressed, senseOf}
-use Rattle.model.specs.Record.{blankDrive, driveAt, sensed, failed, good, unless}
+use Rattle.model.specs.Record.{blankDrive, driveAt, sensed, failed, good, unlessNamed}
 use Rattle.model.specs.Commands.{initialized, initializedBy, initialize, doFree, carryOut}
 use Rattle.model.specs.Engine.{viewOf, obey, Result, imagesOf, imageOf, left, onDrive, execute}
 
@@ -53,7 +53,8 @@ initializing :
     × (leaves (set own 2 8) (replicate 6 0) ≡ entry other 0x22 true)
     -- the image
     × (imageOf 0 (sends own (replicate 6 0) .images) ≡ labelled (replicate 6 0))
-unfolding own other entry before labelled sends leaves execute onDrive left obey unless viewOf imageOf carryOut doFree initialize initializedBy initialized labelHolds isValid labelSetting mediumOf settingOf
-    settingBy fieldsIn isIn rangesOf sizeFor fittedTo part sameBytes pick blockOf addressed senseOf blankDrive driveAt sensed failed good
-    rowFor checkNumber isAmong judge judged inOrder hitsOf isUnknown blockWrong presentWith bytesOf
+unfolding own other entry before labelled sends leaves execute onDrive left obey unlessNamed viewOf imageOf carryOut doFree initialize initializedBy
+    initialized labelHolds isValid labelSetting mediumOf settingOf settingBy fieldsIn isIn rangesOf sizeFor fittedTo part sameBytes pick blockOf
+    addressed senseOf blankDrive driveAt sensed failed good rowFor checkNumber isAmong judge judged inOrder hitsOf isUnknown blockWrong presentWith
+    bytesOf isWhole blockLength isCopy
 initializing = (refl, refl, refl, refl, refl, refl)

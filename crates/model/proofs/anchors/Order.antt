@@ -13,15 +13,15 @@ use Rattle.geometry.specs.Config.{sizeFor, fittedTo, fieldsIn, settingBy, setti
 use Rattle.model.specs.declared.block.Block.{Block}
 use Rattle.model.specs.declared.verdict.Verdict.{Verdict}
 use Rattle.model.specs.declared.verdict.Verdict.the-variants.{Refused, Faulty, Passed}
-use Rattle.model.specs.Block.{blockOf, countOf, fromBuffer, alternateOf}
+use Rattle.model.specs.Block.{blockOf, countOf, fromBuffer, alternateOf, isWhole, blockLength, isCopy}
 use Rattle.model.specs.Table.{checkNumber, isAmong, rowFor}
 use Rattle.model.specs.declared.verdict.View.{View}
 use Rattle.model.specs.Checks.{judged, presentWith, isUnknown, blockWrong, controlWrong, withParams, interleaveWrong, pastEnd, notSpared, sizeIn, bytesOf, reachOf, hitsOf, inOrder, judge}
 use Rattle.model.specs.Sense.{addressed, senseOf}
 use Rattle.model.specs.Feed.{command}
-use Rattle.model.specs.Record.{settingIn, failed, unless}
+use Rattle.model.specs.Record.{settingIn, failed, unlessNamed}
 use Rattle.model.specs.Engine.{viewOf, obey, left, onDrive, execute, fresh}
-use Rattle.model.specs.Machine.{freshDisk, freshMachine, failing, providing, addressGiven, settingWith, seen, ordered, step}
+use Rattle.model.specs.Machine.{freshDisk, freshMachine, addressGiven, settingWith, seen, ordered, step, failingOn, providingOn}
 
 -- ---- Drives of one head; known or not, pending or not; the image's length
 drive : Medium → (config : List ℕ) → (known pending : Bool) → (image : ℕ) → View
@@ -179,8 +179,8 @@ unfolding drive hard ready heard row opcodes when said viewOf settingIn presentW
     judge judged inOrder hitsOf isUnknown blockWrong controlWrong withParams interleaveWrong pastEnd notSpared isValid reachOf sizeIn bytesOf isAmong checkNumber
 undefined-bits = refl
 
--- an opcode past the table is unknown too, with bit 7 or without
-past-table : map (said (when absent 0x80 0 0 0xFF 0 0 [])) (0x12 ∷ 0x13 ∷ 0x20 ∷ 0x80 ∷ 0x91 ∷ 0xFF ∷ []) ≡ replicate 6 0x20
+-- an opcode behind 11h, but for Copy's, is unknown too, with bit 7 or without
+past-table : map (said (when absent 0x80 0 0 0xFF 0 0 [])) (0x12 ∷ 0x13 ∷ 0x1F ∷ 0x21 ∷ 0x80 ∷ 0x91 ∷ 0xFF ∷ []) ≡ replicate 7 0x20
 unfolding drive hard absent heard when said viewOf settingIn presentWith mediumOf isFloppy isIn rangesOf settingOf settingBy fieldsIn sizeFor fittedTo pick blockOf rowFor
     judge judged inOrder hitsOf isUnknown blockWrong
 past-table = refl
@@ -189,8 +189,8 @@ past-table = refl
 six-bytes :
     (map (λ (n : ℕ). execute (fresh []) (replicate n 0xFF) [] [] [] .outcome .answer .number) (0 ∷ 5 ∷ 6 ∷ 7 ∷ 12 ∷ []) ≡ 1 ∷ 1 ∷ 0 ∷ 1 ∷ 1 ∷ [])
     × (map (λ (n : ℕ). step (freshMachine (λ d. 0)) (command (replicate n 0xFF) [] 0) .0 .number) (0 ∷ 5 ∷ 6 ∷ 7 ∷ 12 ∷ []) ≡ 1 ∷ 1 ∷ 0 ∷ 1 ∷ 1 ∷ [])
-unfolding execute onDrive left obey unless failed fresh step freshMachine freshDisk ordered seen settingWith providing failing
-    viewOf settingIn presentWith pick mediumOf isFloppy blockOf rowFor judge judged inOrder hitsOf isUnknown blockWrong
+unfolding execute onDrive left obey unlessNamed failed fresh step freshMachine freshDisk ordered seen settingWith providingOn failingOn viewOf
+    settingIn presentWith pick mediumOf isFloppy blockOf rowFor judge judged inOrder hitsOf isUnknown blockWrong isWhole blockLength isCopy
 six-bytes = (refl, refl)
 
 -- 21h has the block's address, also where only the last address is past the end
@@ -231,8 +231,8 @@ lba : ℕ → Lba
 lba a = record { 0 = a }
 
 senses :
-    -- 21h, 10h-15h and 19h-1Fh: of the paper's codes 10 12 14 15 19 1A 1C 1D 1E 1F 21, and neither 00 04 0A 16 20 22
-    (addressedBelow 128 ≡ 0x10 ∷ 0x11 ∷ 0x12 ∷ 0x13 ∷ 0x14 ∷ 0x15 ∷ 0x19 ∷ 0x1A ∷ 0x1B ∷ 0x1C ∷ 0x1D ∷ 0x1E ∷ 0x1F ∷ 0x21 ∷ [])
+    -- 21h, 10h-15h and 19h-1Fh: of the paper's codes 10 12 14 15 19 1A 1C 1D 1E 1F 21, and neither 00 04 0A 16 20 22; with E5, 23
+    (addressedBelow 128 ≡ 0x10 ∷ 0x11 ∷ 0x12 ∷ 0x13 ∷ 0x14 ∷ 0x15 ∷ 0x19 ∷ 0x1A ∷ 0x1B ∷ 0x1C ∷ 0x1D ∷ 0x1E ∷ 0x1F ∷ 0x21 ∷ 0x23 ∷ [])
     × (map (λ (d : ℕ). senseOf 0x19 d (lba 0x012345)) (0 ∷ 1 ∷ 2 ∷ 3 ∷ [])
     ≡ (0x99 ∷ 0x01 ∷ 0x23 ∷ 0x45 ∷ []) ∷ (0x99 ∷ 0x21 ∷ 0x23 ∷ 0x45 ∷ []) ∷ (0x99 ∷ 0x41 ∷ 0x23 ∷ 0x45 ∷ []) ∷ (0x99 ∷ 0x61 ∷ 0x23 ∷ 0x45 ∷ []) ∷ [])
     × (map (λ (d : ℕ). senseOf 0x16 d (lba 0x012345)) (0 ∷ 1 ∷ 2 ∷ 3 ∷ [])

@@ -29,11 +29,11 @@ use Rattle.model.specs.declared.table.Command.the-variants.{Free, OnDisk
 use Rattle.model.specs.declared.table.FreeCommand.the-variants.{Initialize}
 use Rattle.model.specs.declared.table.DiskCommand.the-variants.{TrackWork}
 use Rattle.model.specs.declared.table.TrackCommand.the-variants.{FormatDrive}
-use Rattle.model.specs.Block.{blockOf, countOf, fromBuffer}
+use Rattle.model.specs.Block.{blockOf, countOf, fromBuffer, isWhole, blockLength, isCopy}
 use Rattle.model.specs.Table.{checkNumber, isAmong, rowFor}
 use Rattle.model.specs.Checks.{judged, presentWith, isUnknown, blockWrong, controlWrong, withParams, interleaveWrong, pastEnd, notSpared, sizeIn, bytesOf, reachOf, hitsOf, inOrder, judge}
 use Rattle.model.specs.Sense.{addressed, senseOf}
-use Rattle.model.specs.Record.{blankDrive, driveAt, sensed, settingIn, failed, good, unless}
+use Rattle.model.specs.Record.{blankDrive, driveAt, sensed, settingIn, failed, good, unlessNamed}
 use Rattle.model.specs.Commands.{plainByte, plainFill, fillOf, madeAt, driveFormatted, pendingEnded, formatDrive, aloneTests, formatTrack, transferEnding, transferred, write}
 use Rattle.model.specs.Commands.{initialized, initializedBy, initialize, doFree, doTrack, doSectors, asEffect, doDisk, carryOut}
 use Rattle.model.specs.Engine.{viewOf, obey, Result, imagesOf, imageOf, left, onDrive, execute, loadedBy, loaded, fresh, resetOf}
@@ -89,15 +89,15 @@ facts :
     × (settingIn (mediumOf 3) (driveAt (made .outcome .controller) 3) (length (imageOf 3 (made .images))) ≡ Invalid)
     × (isGood 2 (wrote .outcome .answer) ≡ true)
     × (driveAt (made .outcome .controller) 2 .known ≡ true)
-unfolding p start then block config sectors made wrote lba pick part splice rows firstFrom firstBelow isSome someBelow sameBytes
-    mediumOf isFloppy isIn rangesOf sizeFor fittedTo fieldsIn settingBy settingOf isValid labelSetting labelHolds emptyFrom layAt place laid layoutOf
-    idBytes idIn idFor ownId withSector flagOf partnerOf isMoved isTaken trackBytes withTrack slotId slotData withData firstId
-    takenBy whereBy whereOf holds slotUsed sectorIn sectorFrom sectorFound stateBy stateOf splits pairSplit slotMade slotsMade formatted soundFrom
-    begun ended writeSlot onward found writing contentIn contentOf blockOf countOf fromBuffer checkNumber isAmong rowFor
-    judged presentWith isUnknown blockWrong controlWrong withParams interleaveWrong pastEnd notSpared sizeIn bytesOf reachOf hitsOf inOrder judge
-    addressed senseOf blankDrive driveAt sensed settingIn failed good unless plainByte plainFill fillOf madeAt driveFormatted pendingEnded formatDrive
-    aloneTests formatTrack transferEnding transferred write initialized initializedBy initialize doFree doTrack doSectors asEffect doDisk carryOut
-    viewOf obey imageOf left onDrive execute loadedBy loaded fresh resetOf isGood
+unfolding p start then block config sectors made wrote lba pick part splice rows firstFrom firstBelow isSome someBelow sameBytes mediumOf isFloppy
+    isIn rangesOf sizeFor fittedTo fieldsIn settingBy settingOf isValid labelSetting labelHolds emptyFrom layAt place laid layoutOf idBytes idIn idFor
+    ownId withSector flagOf partnerOf isMoved isTaken trackBytes withTrack slotId slotData withData firstId takenBy whereBy whereOf holds slotUsed
+    sectorIn sectorFrom sectorFound stateBy stateOf splits pairSplit slotMade slotsMade formatted soundFrom begun ended writeSlot onward found writing
+    contentIn contentOf blockOf countOf fromBuffer checkNumber isAmong rowFor judged presentWith isUnknown blockWrong controlWrong withParams
+    interleaveWrong pastEnd notSpared sizeIn bytesOf reachOf hitsOf inOrder judge addressed senseOf blankDrive driveAt sensed settingIn failed good
+    unlessNamed plainByte plainFill fillOf madeAt driveFormatted pendingEnded formatDrive aloneTests formatTrack transferEnding transferred write
+    initialized initializedBy initialize doFree doTrack doSectors asEffect doDisk carryOut viewOf obey imageOf left onDrive execute loadedBy loaded
+    fresh resetOf isGood isWhole blockLength isCopy
 facts = (refl, refl, refl, refl, refl, refl, refl, refl, refl, refl, refl)
 
 and-off : (x : Bool) → (x && false) ≡ false
@@ -106,7 +106,7 @@ and-off false = refl
 
 spared : ((r : Answer) → r .sectors ≡ 2 → named 2 p (block 0x0A 15 2) sectors r (lba 17) ≡ false)
     × ((r : Answer) → named 2 p (block 0x06 16 1) [] r (lba 15) ≡ false)
-unfolding p block lba named namedBy onTracks oneTrack blockOf rowFor
+unfolding p block lba named namedBy onTracks oneTrack blockOf rowFor isWhole blockLength pick isCopy
 spared = (λ r e. rw e refl, λ r. and-off (isGood 2 r))
 
 given : (part 0 128 sectors ≡ replicate 128 7) × (part 128 128 sectors ≡ replicate 128 8)

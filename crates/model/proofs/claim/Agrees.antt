@@ -16,8 +16,9 @@ use Rattle.model.specs.declared.record.Drive.{Drive}
 use Rattle.model.specs.declared.record.Controller.{Controller}
 use Rattle.model.specs.Feed.{Reply}
 use Rattle.model.specs.Record.{driveAt, Effect}
+use Rattle.model.specs.Engine.{imageOf}
 use Rattle.model.specs.Machine.{Disk, Machine}
-use Rattle.model.specs.Claim.{replyOf}
+use Rattle.model.specs.Claim.{System, replyOf}
 use Rattle.model.proofs.claim.Mirrors.{Mirrors}
 
 -- The stored configuration is the label's, and the image mirrors the machine under it; none is stored where the label is not valid.
@@ -55,3 +56,8 @@ pub record Follows (d : ℕ) (area image : List ℕ) (m : Machine) (e : Effect) 
   -- the machine's other drives stay
   pub others : (j : ℕ) → (j ≡ d → ⊥) → (x .1 .senses j ≡ m .senses j) × (x .1 .disks j ≡ m .disks j)
   pub len : length (e .image) ≡ length image
+
+-- What a call leaves in the engine and in the machine: they reply alike, and agree.
+pub record Answered (y : Reply × System) (x : Reply × Machine) : Type 0 where
+  pub same : y .0 ≡ x .0
+  pub agree : Agrees (y .1 .controller) (λ d. imageOf d (y .1 .images)) (x .1)

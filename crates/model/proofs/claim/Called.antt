@@ -6,25 +6,27 @@ use mathlib.Core.List.{List}
 use native.Mathlib.Decide.{ℕ-discrete}
 use native.Mathlib.Omega.{arith}
 use lib.ListN.{length}
-use lib.Dec.{eqb}
 use Rattle.base.specs.Pick.{pick}
 use Rattle.model.specs.declared.record.Controller.{Controller}
-use Rattle.model.specs.Block.{blockOf}
+use Rattle.model.specs.Block.{blockOf, isWhole, isCopy}
 use Rattle.model.specs.Feed.{Reply, command, bare}
 use Rattle.model.specs.Record.{driveAt, bareAnswer, Effect}
 use Rattle.model.specs.Engine.{Result, imageOf, left, onDrive, execute, resetOf}
 use Rattle.model.specs.Machine.{Machine, step}
 use Rattle.model.specs.Claim.{System, Call, Reset, Command, fed, replyOf, replied, called}
+use Rattle.model.proofs.engine.Leaving.{unmoved}
 use Rattle.model.proofs.engine.Assembled.{drive-below, drives-length, own-entry, other-entry, own-image, other-image}
-use Rattle.model.proofs.claim.Agrees.{InStep, Agrees, Follows}
+use Rattle.model.proofs.claim.Agrees.{InStep, Agrees, Follows, Answered}
 use Rattle.model.proofs.claim.Obeyed.{obey-follows}
+use Rattle.model.proofs.claim.Copied.{copy-executes}
 use Rattle.model.proofs.claim.Restarted.{agree-reset}
 
--- ---- a call
--- engine and machine reply alike, and agree
-pub record Answered (y : Reply × System) (x : Reply × Machine) : Type 0 where
-  pub same : y .0 ≡ x .0
-  pub agree : Agrees (y .1 .controller) (λ d. imageOf d (y .1 .images)) (x .1)
+-- one test for both
+module _ {ℓ} {A B : Type ℓ} (P : A → B → Type 0) where
+  pick-both-by : (b : Bool) {x y : A} {u v : B} → (b ≡ true → P x u) → (b ≡ false → P y v) → P (pick b x y) (pick b u v)
+  unfolding pick
+  pick-both-by true hx hy = hx refl
+  pick-both-by false hx hy = hy refl
 
 module _ (c : Controller) (area : List ℕ) (images : List (List ℕ)) (m : Machine) (agree : Agrees c (λ d. imageOf d images) m) where
   reply-left : (d : ℕ) (e : Effect) (x : Reply × Machine) → Follows d area (imageOf d images) m e x
@@ -62,22 +64,23 @@ module _ (c : Controller) (area : List ℕ) (images : List (List ℕ)) (m : Mach
             drive = rw (others .1) (old .drive);
           })
 
-  -- by whether the block is six bytes
-  six-executes : (six : Bool) (r : Result) (x : Reply × Machine) → Answered (replied r) x
-      → Answered (replied (pick six r (record { outcome = record { controller = c; answer = bareAnswer 1 }; area = area; images = images })))
-      (pick six x (bare 1, m))
-  unfolding pick replyOf replied
-  six-executes true r x good = good
-  six-executes false r x good = record { same = refl; agree = agree }
+  not-whole-executes : Answered (replied (unmoved c area images 1)) (bare 1, m)
+  unfolding replied replyOf
+  not-whole-executes = record { same = refl; agree = agree }
 
   execute-executes : (block given : List ℕ) → Answered (replied (execute c block given area images)) (step m (command block given (length area)))
   unfolding execute onDrive step
   execute-executes block given =
       let b = blockOf block in
       let h = drive-below block in
-      six-executes (eqb (length block) 6) _ _
-      (left-executes (b .drive) _ _ h
-      (obey-follows b given area (driveAt c (b .drive)) (c .buffer) (imageOf (b .drive) images) m (agree .drives (b .drive) h)))
+      pick-both-by (λ (r : Result) (x : Reply × Machine). Answered (replied r) x) (isWhole block)
+      (λ whole.
+      pick-both-by (λ (r : Result) (x : Reply × Machine). Answered (replied r) x) (isCopy block)
+      (λ copy. copy-executes c area images m agree block copy)
+      (λ other.
+      left-executes (b .drive) _ _ h
+      (obey-follows b given area (driveAt c (b .drive)) (c .buffer) (imageOf (b .drive) images) m (agree .drives (b .drive) h))))
+      (λ none. not-whole-executes)
 
 pub call-answered : (s : System) (call : Call) (m : Machine) → Agrees (s .controller) (λ d. imageOf d (s .images)) m
     → Answered (called s call) (step m (fed call))

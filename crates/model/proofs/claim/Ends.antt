@@ -16,10 +16,10 @@ use Rattle.model.specs.declared.record.Ending.{Ending}
 use Rattle.model.specs.declared.verdict.Verdict.{Verdict}
 use Rattle.model.specs.declared.verdict.Verdict.the-variants.{Refused, Faulty, Passed}
 use Rattle.model.specs.Sense.{addressed, senseOf}
-use Rattle.model.specs.Record.{sensed, refused, failed, good, unless, Effect, effect, Made, made}
+use Rattle.model.specs.Record.{sensed, refused, failed, good, unless, Effect, effect, Made, made, unlessNamed}
 use Rattle.model.specs.Commands.{asEffect}
 use Rattle.model.specs.Feed.{Reply, bare}
-use Rattle.model.specs.Machine.{Disk, Machine, changed, withSense, withBuffer, withDisk, failing, well, providing}
+use Rattle.model.specs.Machine.{Disk, Machine, changed, withSense, withBuffer, withDisk, failing, well, providing, failingOn, providingOn}
 use Rattle.model.specs.Claim.{replyOf}
 use Rattle.model.proofs.claim.Agrees.{Drives, InStep, Follows}
 
@@ -43,7 +43,7 @@ unfolding splice
 front handed area = take-append-seam handed _
 
 -- ---- a drive's sense is no part of what else is said of it
-resensed : (medium : Medium) (sense : List ℕ) (entry : Drive) (image : List ℕ) (u : Disk) → Drives medium entry image u
+pub resensed : (medium : Medium) (sense : List ℕ) (entry : Drive) (image : List ℕ) (u : Disk) → Drives medium entry image u
     → Drives medium (sensed sense entry) image u
 unfolding sensed
 resensed medium sense entry image u o =
@@ -120,7 +120,7 @@ module _ (b : Block) (area image : List ℕ) (m : Machine) where
     pub failing-follows : (code : ℕ) (at : Lba)
         → Follows (b .drive) area image m (effect (failed (b .drive) (b .drive) code at sectors (length handed) entry) buffer handed after)
         (failing b code at sectors handed n)
-    unfolding failed failing replyOf
+    unfolding failed failingOn replyOf
     failing-follows code at = record {
       reply = rw (front handed area);
       alike = alike-sensed _ (sense-length code (b .drive) at);
@@ -144,7 +144,7 @@ module _ (b : Block) (area image : List ℕ) (m : Machine) where
     -- one verdict for both
     pub verdict-follows : (v : Verdict) (e : Effect) (x : Reply × Machine) → (v ≡ Passed → Follows (b .drive) area image m e x)
         → Follows (b .drive) area image m (unless v (b .drive) entry (λ ending. effect ending buffer [] image) e) (providing v b m x)
-    unfolding unless providing
+    unfolding unlessNamed providingOn
     verdict-follows (Refused number) e x go = refused-follows number
     verdict-follows (Faulty code at) e x go = fault-follows code at
     verdict-follows Passed e x go = go refl
@@ -152,7 +152,7 @@ module _ (b : Block) (area image : List ℕ) (m : Machine) where
     -- the same for a command that leaves the buffer
     pub made-follows : (v : Verdict) (y : Made) (x : Reply × Machine) → (v ≡ Passed → Follows (b .drive) area image m (asEffect buffer y) x)
         → Follows (b .drive) area image m (asEffect buffer (unless v (b .drive) entry (λ ending. made ending image) y)) (providing v b m x)
-    unfolding unless providing asEffect
+    unfolding unlessNamed providingOn asEffect
     made-follows (Refused number) y x go = refused-follows number
     made-follows (Faulty code at) y x go = fault-follows code at
     made-follows Passed y x go = go refl
@@ -160,7 +160,7 @@ module _ (b : Block) (area image : List ℕ) (m : Machine) where
     -- the same for one that leaves the image too
     pub ending-follows : (v : Verdict) (y : Ending) (x : Reply × Machine) → (v ≡ Passed → Follows (b .drive) area image m (effect y buffer [] image) x)
         → Follows (b .drive) area image m (effect (unless v (b .drive) entry (λ ending. ending) y) buffer [] image) (providing v b m x)
-    unfolding unless providing
+    unfolding unlessNamed providingOn
     ending-follows (Refused number) y x go = refused-follows number
     ending-follows (Faulty code at) y x go = fault-follows code at
     ending-follows Passed y x go = go refl

@@ -9,7 +9,7 @@ use Rattle.geometry.specs.declared.config.Setting.the-variants.{Valid, Invalid}
 use Rattle.geometry.specs.Medium.{mediumOf}
 use Rattle.model.specs.declared.block.Block.{Block}
 use Rattle.model.specs.declared.table.Command.{Command}
-use Rattle.model.specs.declared.table.Command.the-variants.{Free, OnDisk, Unknown}
+use Rattle.model.specs.declared.table.Command.the-variants.{Free, OnDisk, Copy, Unknown}
 use Rattle.model.specs.declared.table.FreeCommand.{FreeCommand}
 use Rattle.model.specs.declared.table.FreeCommand.the-variants.{RequestSense, WriteBuffer, ReadBuffer, Initialize}
 use Rattle.model.specs.declared.table.DiskCommand.{DiskCommand}
@@ -97,6 +97,7 @@ module _ (b : Block) (given area : List ℕ) (entry : Drive) (buffer image : Lis
         (subst (λ (r : TableRow). Cleared r b p (m .disks (b .drive) .pending) (length given)) (row (OnDisk command) is)
         (cleared b (seen (mediumOf (b .drive)) (m .disks (b .drive))) (length given) (length area) passed p e))
     carried-follows s e Unknown is = fault-follows b area image m entry buffer alike 0x20 (b .address)
+    carried-follows s e Copy is = fault-follows b area image m entry buffer alike 0x20 (b .address)
 
   pub obey-follows : Follows (b .drive) area image m (obey b given (length area) entry buffer image) (ordered b given (length area) m (m .disks (b .drive)))
   unfolding obey ordered

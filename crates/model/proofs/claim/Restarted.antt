@@ -19,6 +19,7 @@ use Rattle.model.specs.Machine.{Disk, Machine, freshDisk, freshMachine, 
 use Rattle.model.specs.Claim.{beginMachine}
 use Rattle.model.proofs.claim.Agrees.{Stored, nothing, something, Drives, InStep, Agrees}
 use Rattle.model.proofs.claim.Current.{stored-forced}
+use Rattle.model.specs.Block.{isWhole, blockLength, isCopy}
 
 -- ---- the drives that Reset makes
 pub loaded-blank : (drive : ℕ) (image : List ℕ) → labelSetting (mediumOf drive) image ≡ Invalid → loaded drive image ≡ blankDrive
@@ -67,7 +68,7 @@ module _ (images : List (List ℕ)) (m : Machine) where
   reset-follows : ((d : ℕ) → d < 4 → m .disks d .len ≡ length (imageOf d images))
       → ((d : ℕ) → d < 4 → Stored (mediumOf d) (m .disks d) (imageOf d images) (m .disks d .stored))
       → Agrees (fresh images) (λ d. imageOf d images) (step m reset .1)
-  unfolding step fresh
+  unfolding step fresh isWhole blockLength isCopy
   reset-follows len stored = record { four = refl; drives = drives }
     where
       drives : (d : ℕ) → d < 4 → InStep d (driveAt (fresh images) d) (replicate 512 0) (imageOf d images) (step m reset .1)
@@ -87,5 +88,5 @@ module _ (images : List (List ℕ)) (m : Machine) where
 -- a fresh machine is one after Reset
 module _ (images : List (List ℕ)) (none-stored : (d : ℕ) → d < 4 → labelSetting (mediumOf d) (imageOf d images) ≡ Invalid) where
   pub agree-fresh : Agrees (fresh images) (λ d. imageOf d images) (beginMachine images)
-  unfolding beginMachine freshMachine freshDisk step restored inForce
+  unfolding beginMachine freshMachine freshDisk step restored inForce isWhole blockLength isCopy
   agree-fresh = reset-follows images (beginMachine images) (λ d h. refl) (λ d h. nothing (none-stored d h))

@@ -22,7 +22,7 @@ use Rattle.track.specs.declared.state.State.{State}
 use Rattle.sectors.specs.Transfer.{begun}
 use Rattle.model.specs.declared.block.Block.{Block}
 use Rattle.model.specs.declared.table.Command.{Command}
-use Rattle.model.specs.declared.table.Command.the-variants.{Free, OnDisk, Unknown}
+use Rattle.model.specs.declared.table.Command.the-variants.{Free, OnDisk, Copy, Unknown}
 use Rattle.model.specs.declared.table.FreeCommand.{FreeCommand}
 use Rattle.model.specs.declared.table.FreeCommand.the-variants.{RequestSense, WriteBuffer, ReadBuffer, Initialize}
 use Rattle.model.specs.declared.table.DiskCommand.{DiskCommand}
@@ -38,7 +38,7 @@ use Rattle.model.specs.declared.verdict.Verdict.the-variants.{Refused, F
 use Rattle.model.specs.Block.{countOf, alternateOf}
 use Rattle.model.specs.Table.{TableRow, checkNumber, isAmong, rowFor}
 use Rattle.model.specs.Checks.{bytesOf, sizeIn, judged, judge}
-use Rattle.model.specs.Record.{settingIn, unless, Effect, effect, Made, made}
+use Rattle.model.specs.Record.{settingIn, unless, Effect, effect, Made, made, unlessNamed}
 use Rattle.model.specs.Commands.{fillOf, driveFormatted, formatDrive, formatTrack, transferred, read, write, assignTests, assignAlternate}
 use Rattle.model.specs.Commands.{doFree, doTrack, doSectors, asEffect, doDisk, carryOut}
 use Rattle.model.specs.Engine.{viewOf, obey}
@@ -53,7 +53,7 @@ use Rattle.model.proofs.engine.Leaving.{read-image}
 -- ---- By checks: what the command was lent, whatever the entry and the answer, or what it makes of it
 pub unless-left : {A : Type 0} (P : A → Type 0) (v : Verdict) (drive : ℕ) (entry : Drive) (keep : Ending → A) (after : A)
     → ((e : Ending) → P (keep e)) → (v ≡ Passed → P after) → P (unless v drive entry keep after)
-unfolding unless
+unfolding unlessNamed
 unless-left P (Refused number) drive entry keep after old new = old _
 unless-left P (Faulty code at) drive entry keep after old new = old _
 unless-left P Passed drive entry keep after old new = new refl
@@ -167,6 +167,7 @@ module _ (b : Block) (given : List ℕ) (area : ℕ) (entry : Drive) (buffer ima
     carried-outside Invalid e (OnDisk command) is = outside-self low Invalid image
     carried-outside (Valid p) e (OnDisk command) is = disk-outside p e command is
     carried-outside s e Unknown is = outside-self low s image
+    carried-outside s e Copy is = outside-self low s image
 
 -- ---- Any command, on any image
 pub outside-kept : (b : Block) (given : List ℕ) (area : ℕ) (entry : Drive) (buffer image : List ℕ)

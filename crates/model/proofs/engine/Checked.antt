@@ -19,7 +19,7 @@ use Rattle.geometry.proofs.Sizes.{sectors-some}
 use Rattle.geometry.proofs.Addresses.{track-in}
 use Rattle.model.specs.declared.block.Block.{Block}
 use Rattle.model.specs.declared.table.Command.{Command}
-use Rattle.model.specs.declared.table.Command.the-variants.{Free, OnDisk, Unknown}
+use Rattle.model.specs.declared.table.Command.the-variants.{Free, OnDisk, Copy, Unknown}
 use Rattle.model.specs.declared.table.FreeCommand.the-variants.{RequestSense, WriteBuffer, ReadBuffer, Initialize}
 use Rattle.model.specs.declared.table.DiskCommand.the-variants.{ArmWork, TrackWork, SectorWork}
 use Rattle.model.specs.declared.table.ArmCommand.the-variants.{TestReady, Recalibrate, Seek}
@@ -29,7 +29,7 @@ use Rattle.model.specs.declared.verdict.View.{View}
 use Rattle.model.specs.declared.verdict.Verdict.the-variants.{Passed}
 use Rattle.model.specs.Block.{countOf}
 use Rattle.model.specs.Table.{Interleave, Address, Counted, Settled, SparedWhole, TableRow, applies, table, unknown, rowFor}
-use Rattle.model.specs.Checks.{withParams, interleaveWrong, pastEnd, notSpared, bytesOf, reachOf, hitsOf, inOrder, judge}
+use Rattle.model.specs.Checks.{withParams, interleaveWrong, pastEnd, notSpared, bytesOf, reachOf, hitsOf, inOrder, judgeOver, judge}
 use Rattle.model.proofs.engine.Judged.{passed-on, not-refused}
 
 -- ---- a command has one row
@@ -50,6 +50,7 @@ opcodeFor (Free WriteBuffer) = 15
 opcodeFor (Free ReadBuffer) = 16
 opcodeFor (Free Initialize) = 17
 opcodeFor Unknown = 2
+opcodeFor Copy = 32
 
 data Every (P : TableRow → Type 0) : List TableRow → Type 0 where
   none : Every P []
@@ -65,30 +66,36 @@ unfolding rowFor opcodeFor
 row-of opcode =
     every-row (λ e. e ≡ rowFor (opcodeFor (e .command))) table unknown
     (also refl (also refl (also refl (also refl (also refl (also refl (also refl (also refl (also refl
-    (also refl (also refl (also refl (also refl (also refl (also refl (also refl (also refl (also refl none)))))))))))))))))) refl opcode
+    (also refl (also refl (also refl (also refl (also refl (also refl (also refl (also refl (also refl
+    (also refl (also refl (also refl (also refl (also refl (also refl (also refl (also refl (also refl
+    (also refl (also refl (also refl (also refl (also refl (also refl none))))))))))))))))))))))))))))))))) refl opcode
 
 and-off : (a b : Bool) → a ≡ true → (a && b) ≡ false → b ≡ false
 and-off true b e h = h
 and-off false b e h = absurd (false≢true e)
 
 -- ---- what has passed, with parameters p
-pub record Cleared (e : TableRow) (b : Block) (p : Params) (pending : Bool) (given : ℕ) : Type 0 where
+pub record ClearedOver (e : TableRow) (b : Block) (reach : ℕ) (p : Params) (pending : Bool) (given : ℕ) : Type 0 where
   pub interleave : (applies Interleave e && interleaveWrong (b .extra) p) ≡ false
-  pub address : (applies Address e && pastEnd (b .address) (reachOf (applies Counted e) b) p) ≡ false
+  pub address : (applies Address e && pastEnd (b .address) reach p) ≡ false
   pub unpended : (pending && (applies Settled e && notSpared (applies SparedWhole e) (b .address) p)) ≡ false
   pub enough : bytesOf (e .takes) b (Valid p) ≤ given
 
-module _ (b : Block) (v : View) (given area : ℕ) (passed : judge b v given area ≡ Passed) where
+-- of a command of six bytes, with the reach of its row
+abbrev pub Cleared : TableRow → Block → Params → (pending : Bool) → (given : ℕ) → Type 0
+Cleared e b p pending given = ClearedOver e b (reachOf (applies Counted e) b) p pending given
+
+module _ (b : Block) (reach : ℕ) (v : View) (given area : ℕ) (passed : judgeOver b reach v given area ≡ Passed) where
   -- all nine tests, one after the other
   record Nine (e : TableRow) : Type 0 where
     interleave : (applies Interleave e && withParams (v .setting) (interleaveWrong (b .extra))) ≡ false
-    past : (applies Address e && withParams (v .setting) (pastEnd (b .address) (reachOf (applies Counted e) b))) ≡ false
+    past : (applies Address e && withParams (v .setting) (pastEnd (b .address) reach)) ≡ false
     pending : (v .pending && (applies Settled e && withParams (v .setting) (notSpared (applies SparedWhole e) (b .address)))) ≡ false
     taken : bytesOf (e .takes) b (v .setting) ≤ given
     handed : bytesOf (e .gives) b (v .setting) ≤ area
 
   nine : Nine (rowFor (b .opcode))
-  unfolding judge inOrder hitsOf
+  unfolding inOrder hitsOf
   nine =
       let t₁ = passed-on _ _ _ _ passed in
       let t₂ = passed-on _ _ _ _ (t₁ .1) in
@@ -101,27 +108,40 @@ module _ (b : Block) (v : View) (given area : ℕ) (passed : judge b v given are
       let t₉ = not-refused _ _ _ (t₈ .1) in
       record { interleave = t₅ .0; past = t₆ .0; pending = t₇ .0; taken = ltb-false _ _ (t₈ .0); handed = ltb-false _ _ (t₉ .0) }
 
-  pub given-enough : bytesOf (rowFor (b .opcode) .takes) b (v .setting) ≤ given
-  given-enough = nine .taken
+  pub given-over : bytesOf (rowFor (b .opcode) .takes) b (v .setting) ≤ given
+  given-over = nine .taken
 
-  pub area-enough : bytesOf (rowFor (b .opcode) .gives) b (v .setting) ≤ area
-  area-enough = nine .handed
+  pub area-over : bytesOf (rowFor (b .opcode) .gives) b (v .setting) ≤ area
+  area-over = nine .handed
 
   asked : (p : Params) → v .setting ≡ Valid p → (applied : Bool) (ask : Params → Bool) → (applied && withParams (v .setting) ask) ≡ false
       → (applied && ask p) ≡ false
   unfolding withParams
   asked p valid applied ask h = subst (λ (s : Setting). (applied && withParams s ask) ≡ false) valid h
 
-  pub cleared : (p : Params) → v .setting ≡ Valid p → Cleared (rowFor (b .opcode)) b p (v .pending) given
+  pub cleared-over : (p : Params) → v .setting ≡ Valid p → ClearedOver (rowFor (b .opcode)) b reach p (v .pending) given
   unfolding withParams
-  cleared p valid =
+  cleared-over p valid =
       let e = rowFor (b .opcode) in
       record {
         interleave = asked p valid (applies Interleave e) (interleaveWrong (b .extra)) (nine .interleave);
-        address = asked p valid (applies Address e) (pastEnd (b .address) (reachOf (applies Counted e) b)) (nine .past);
+        address = asked p valid (applies Address e) (pastEnd (b .address) reach) (nine .past);
         unpended = subst (λ (s : Setting). (v .pending && (applies Settled e && withParams s (notSpared (applies SparedWhole e) (b .address)))) ≡ false) valid (nine .pending);
-        enough = subst (λ (s : Setting). bytesOf (e .takes) b s ≤ given) valid given-enough;
+        enough = subst (λ (s : Setting). bytesOf (e .takes) b s ≤ given) valid given-over;
       }
+
+module _ (b : Block) (v : View) (given area : ℕ) (passed : judge b v given area ≡ Passed) where
+  pub given-enough : bytesOf (rowFor (b .opcode) .takes) b (v .setting) ≤ given
+  unfolding judge
+  given-enough = given-over b _ v given area passed
+
+  pub area-enough : bytesOf (rowFor (b .opcode) .gives) b (v .setting) ≤ area
+  unfolding judge
+  area-enough = area-over b _ v given area passed
+
+  pub cleared : (p : Params) → v .setting ≡ Valid p → Cleared (rowFor (b .opcode)) b p (v .pending) given
+  unfolding judge
+  cleared = cleared-over b _ v given area passed
 
 pending-spared : (pending settled whole first : Bool) → settled ≡ true → (pending && (settled && not (whole && first))) ≡ false
     → (pending ≡ false) ⊎ ((whole ≡ true) × (first ≡ true))
@@ -131,7 +151,7 @@ pending-spared true true false first s off = absurd (true≢false off)
 pending-spared true true true false s off = absurd (true≢false off)
 pending-spared true true true true s off = inr (refl, refl)
 
-module _ {e : TableRow} {b : Block} {p : Params} {pending : Bool} {given : ℕ} (w : Within p) (clear : Cleared e b p pending given) where
+module _ {e : TableRow} {b : Block} {reach : ℕ} {p : Params} {pending : Bool} {given : ℕ} (w : Within p) (clear : ClearedOver e b reach p pending given) where
   -- an interleave of 1 to n - 1
   pub interleave-in : applies Interleave e ≡ true → (0 < b .extra) × (b .extra < p .sectors)
   unfolding interleaveWrong
@@ -140,10 +160,10 @@ module _ {e : TableRow} {b : Block} {p : Params} {pending : Bool} {given : ℕ} 
       (omega (arith, ltb-false (b .extra) 1 (o .0)), omega (arith, ltb-false (p .sectors - 1) (b .extra) (o .1), w .sectors-some))
 
   -- the address, and the last one of a count, is on the drive
-  pub reach-in : applies Address e ≡ true → 0 < reachOf (applies Counted e) b → b .address .0 + reachOf (applies Counted e) b ≤ addressCount p
+  pub reach-in : applies Address e ≡ true → 0 < reach → b .address .0 + reach ≤ addressCount p
   unfolding pastEnd
   reach-in flag some =
-      omega (arith, ltb-false (lastAddress p .0) (b .address .0 + reachOf (applies Counted e) b - 1) (and-off (applies Address e) _ flag (clear .address)), sectors-some p w)
+      omega (arith, ltb-false (lastAddress p .0) (b .address .0 + reach - 1) (and-off (applies Address e) _ flag (clear .address)), sectors-some p w)
 
   pub not-pending : applies Settled e ≡ true → applies SparedWhole e ≡ false → pending ≡ false
   unfolding notSpared

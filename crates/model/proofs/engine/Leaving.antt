@@ -1,15 +1,14 @@
 -- What each command can leave. Numbers 1, 2 and 3 and no others refuse, and a refusal changes nothing at all.
 use Prim.Native.Nat.{ℕ, zero, suc, _+_, _*_, _≤_}
-use mathlib.Core.Path.{_≡_, refl, sym}
+use mathlib.Core.Path.{_≡_, refl, sym, ap, _∙_}
 use mathlib.Core.Bool.{Bool, true, false, not, true≢false}
 use mathlib.Core.List.{List, [], _∷_}
 use native.Mathlib.Omega.{arith}
 use lib.ListN.{length, set, take, drop}
 use lib.Seq.{set-getD}
-use lib.Dec.{eqb}
+use lib.Dec.{ltb, eqb}
 use Rattle.base.specs.Pick.{pick}
 use Rattle.base.specs.Part.{part, splice}
-use Rattle.base.proofs.Decide.{pick-both}
 use Rattle.geometry.specs.declared.params.Lba.{Lba}
 use Rattle.geometry.specs.declared.params.Params.{Params}
 use Rattle.geometry.specs.declared.config.Setting.{Setting}
@@ -24,7 +23,7 @@ use Rattle.formatter.specs.Check.{checkCode}
 use Rattle.sectors.specs.Transfer.{Transfer, begun, ended, readSlot, writeSlot, onward, found, reading, writing}
 use Rattle.model.specs.declared.block.Block.{Block}
 use Rattle.model.specs.declared.table.Command.{Command}
-use Rattle.model.specs.declared.table.Command.the-variants.{Free, OnDisk, Unknown}
+use Rattle.model.specs.declared.table.Command.the-variants.{Free, OnDisk, Copy, Unknown}
 use Rattle.model.specs.declared.table.FreeCommand.{FreeCommand}
 use Rattle.model.specs.declared.table.FreeCommand.the-variants.{RequestSense, WriteBuffer, ReadBuffer, Initialize}
 use Rattle.model.specs.declared.table.DiskCommand.{DiskCommand}
@@ -41,14 +40,14 @@ use Rattle.model.specs.declared.record.Ending.{Ending}
 use Rattle.model.specs.declared.verdict.View.{View}
 use Rattle.model.specs.declared.verdict.Verdict.{Verdict}
 use Rattle.model.specs.declared.verdict.Verdict.the-variants.{Refused, Faulty, Passed}
-use Rattle.model.specs.Block.{blockOf, countOf}
+use Rattle.model.specs.Block.{countOf}
 use Rattle.model.specs.Table.{rowFor}
-use Rattle.model.specs.Checks.{Test, on, refuses, judged, inOrder, judge}
+use Rattle.model.specs.Checks.{Test, on, refuses, judged, bytesOf, hitsOf, inOrder, judgeOver, judge}
 use Rattle.model.specs.Sense.{addressed, senseOf}
-use Rattle.model.specs.Record.{driveAt, blankDrive, sensed, refused, failed, good, unless, Effect, effect, Made, made}
+use Rattle.model.specs.Record.{driveAt, blankDrive, sensed, refused, failed, good, unless, Effect, effect, Made, made, unlessNamed}
 use Rattle.model.specs.Commands.{pendingEnded, formatDrive, checkTests, checkTrack, aloneTests, formatTrack, transferEnding, transferred, read, write}
 use Rattle.model.specs.Commands.{assignTests, assignAlternate, initialized, initializedBy, initialize, doFree, doArm, doTrack, doSectors, asEffect, doDisk, carryOut}
-use Rattle.model.specs.Engine.{obey, Result, imageOf, left, onDrive, execute}
+use Rattle.model.specs.Engine.{obey, Result, imageOf}
 
 -- ---- What becomes of the entry of the drive, by the status
 -- The sense after a good end: no code, the number of the drive, no address.
@@ -70,6 +69,7 @@ isPlain (OnDisk (TrackWork FormatBadTrack)) = true
 isPlain (OnDisk (TrackWork AssignAlternate)) = true
 isPlain (OnDisk (SectorWork command)) = true
 isPlain Unknown = false
+isPlain Copy = false
 
 -- Any command can end with a code, which is in the sense then.
 pub data Makes (b : Block) (given : List ℕ) (entry : Drive) (image : List ℕ) : Command → (status : ℕ) → Drive → Type 0 where
@@ -90,6 +90,7 @@ sparesBuffer (OnDisk (ArmWork command)) = true
 sparesBuffer (OnDisk (TrackWork command)) = true
 sparesBuffer (OnDisk (SectorWork command)) = false
 sparesBuffer Unknown = true
+sparesBuffer Copy = true
 
 pub data Fills (b : Block) (given buffer : List ℕ) : Command → (status : ℕ) → List ℕ → Type 0 where
   as-was : {command : Command} {status : ℕ} → sparesBuffer command ≡ true → Fills b given buffer command status buffer
@@ -108,6 +109,7 @@ isQuiet (OnDisk (TrackWork command)) = true
 isQuiet (OnDisk (SectorWork Read)) = false
 isQuiet (OnDisk (SectorWork Write)) = true
 isQuiet Unknown = true
+isQuiet Copy = true
 
 pub data Hands (b : Block) (entry : Drive) (buffer : List ℕ) : Command → (status : ℕ) → List ℕ → Type 0 where
   nothing : {command : Command} {status : ℕ} → isQuiet command ≡ true → Hands b entry buffer command status []
@@ -154,6 +156,7 @@ data Tests : (refusals : Bool) → List Test → Type 0 where
       → Tests refusals (on hit code at ∷ tests)
   seconds : {hit : Bool} {tests : List Test} → Tests true tests → Tests true (refuses hit 2 ∷ tests)
   thirds : {hit : Bool} {tests : List Test} → Tests true tests → Tests true (refuses hit 3 ∷ tests)
+  spares : {refusals hit : Bool} {number : ℕ} {tests : List Test} → hit ≡ false → Tests refusals tests → Tests refusals (refuses hit number ∷ tests)
 
 -- a code that is written out is not 0; nor is one that a test has looked at
 some : {hit : Bool} {code : ℕ} → hit ≡ true → 1 ≤ suc code
@@ -169,6 +172,7 @@ judged-by done = pass
 judged-by (faults some rest) = picked _ (λ hit. fault _ _ (some hit)) (judged-by rest)
 judged-by (seconds rest) = picked _ (λ hit. second) (judged-by rest)
 judged-by (thirds rest) = picked _ (λ hit. third) (judged-by rest)
+judged-by (spares off rest) = picked _ (λ hit. absurd (true≢false (sym hit ∙ off))) (judged-by rest)
 
 check-judged : (code : ℕ) (a : Lba) → Verdicts false (judged (checkTests code a))
 unfolding checkTests
@@ -178,10 +182,23 @@ pub judge-by : (b : Block) (v : View) (given area : ℕ) → Verdicts true (judg
 unfolding judge inOrder
 judge-by b v given area = judged-by (faults some (faults some (faults some (faults some (faults some (faults some (faults some (seconds (thirds done)))))))))
 
+-- A Copy takes no data and hands none over, so that neither drive's checks refuse it.
+pub copy-judge-by : (b : Block) (reach : ℕ) (v : View) → b .opcode ≡ 0x20 → Verdicts false (judgeOver b reach v 0 0)
+unfolding inOrder hitsOf rowFor bytesOf
+copy-judge-by b reach v is =
+    let short : ltb 0 (bytesOf (rowFor (b .opcode) .takes) b (v .setting)) ≡ false =
+    ap (λ (opcode : ℕ). ltb 0 (bytesOf (rowFor opcode .takes) b (v .setting))) is
+    in
+    let small : ltb 0 (bytesOf (rowFor (b .opcode) .gives) b (v .setting)) ≡ false =
+    ap (λ (opcode : ℕ). ltb 0 (bytesOf (rowFor opcode .gives) b (v .setting))) is
+    in
+    judged-by
+    (faults some (faults some (faults some (faults some (faults some (faults some (faults some (spares short (spares small done)))))))))
+
 -- own checks: what holds of a command that has failed or passed them holds
 own : {A : Type 0} (P : A → Type 0) (drive : ℕ) (entry : Drive) (keep : Ending → A) (after : A) {v : Verdict} → Verdicts false v
     → ((code : ℕ) (at : Lba) → 1 ≤ code → P (keep (failed drive drive code at 0 0 entry))) → P after → P (unless v drive entry keep after)
-unfolding unless
+unfolding unlessNamed
 own P drive entry keep after (fault code at some) failing passing = failing code at some
 own P drive entry keep after pass failing passing = passing
 
@@ -226,6 +243,7 @@ module _ (b : Block) (given : List ℕ) (entry : Drive) (buffer image : List ℕ
   fault-fills (OnDisk (TrackWork command)) = as-was refl
   fault-fills (OnDisk (SectorWork command)) = front []
   fault-fills Unknown = as-was refl
+  fault-fills Copy = as-was refl
 
   fault-hands : (command : Command) → Hands b entry buffer command (2 + 32 * b .drive) []
   unfolding isQuiet
@@ -238,6 +256,7 @@ module _ (b : Block) (given : List ℕ) (entry : Drive) (buffer image : List ℕ
   fault-hands (OnDisk (SectorWork Read)) = read-out []
   fault-hands (OnDisk (SectorWork Write)) = nothing refl
   fault-hands Unknown = nothing refl
+  fault-hands Copy = nothing refl
 
   faulty : (command : Command) (code : ℕ) (at : Lba) → 1 ≤ code → LeavesAs command (effect (failed (b .drive) (b .drive) code at 0 0 entry) buffer [] image)
   unfolding failed
@@ -347,6 +366,7 @@ module _ (b : Block) (given : List ℕ) (entry : Drive) (buffer image : List ℕ
   carried-ends Invalid (OnDisk command) = faulty (OnDisk command) 0x0A (b .address) (omega arith)
   carried-ends (Valid p) (OnDisk command) = disk-ends p command
   carried-ends s Unknown = faulty Unknown 0x20 (b .address) (omega arith)
+  carried-ends s Copy = faulty Copy 0x20 (b .address) (omega arith)
 
 -- ---- So a command is refused with 2 or 3, leaves entry, buffer and image and hands nothing over, or it ends with number 0
 pub data Obeyed (b : Block) (given : List ℕ) (entry : Drive) (buffer image : List ℕ) (command : Command) (e : Effect) : Type 0 where
@@ -357,7 +377,7 @@ pub data Obeyed (b : Block) (given : List ℕ) (entry : Drive) (buffer image : L
 module _ (b : Block) (given : List ℕ) (entry : Drive) (buffer image : List ℕ) (command : Command) where
   verdict-obeyed : {v : Verdict} (after : Effect) → Verdicts true v → LeavesBy b given entry buffer image command after
       → Obeyed b given entry buffer image command (unless v (b .drive) entry (λ e. effect e buffer [] image) after)
-  unfolding unless
+  unfolding unlessNamed
   verdict-obeyed after second h = denied 2 (omega arith) (omega arith) refl
   verdict-obeyed after third h = denied 3 (omega arith) (omega arith) refl
   verdict-obeyed after (fault code at some) h = answered (faulty b given entry buffer image command code at some)
@@ -385,23 +405,3 @@ unmoved c area images number = record {
   area = area;
   images = images;
 }
-
-pub data Answered (c : Controller) (area : List ℕ) (images : List (List ℕ)) (r : Result) : Type 0 where
-  accepted : r .outcome .answer .number ≡ 0 → Answered c area images r
-  unchanged : (number : ℕ) → 1 ≤ number → number ≤ 3 → r ≡ unmoved c area images number → Answered c area images r
-
-module _ (c : Controller) (block given area : List ℕ) (images : List (List ℕ)) where
-  left-answered : (b : Block) (command : Command) (e : Effect) → Obeyed b given (driveAt c (b .drive)) (c .buffer) (imageOf (b .drive) images) command e
-      → Answered c area images (left (b .drive) e c area images)
-  unfolding left refused splice
-  left-answered b command e (answered ends) = accepted (ends .number)
-  left-answered b command e (denied number least most is) =
-      unchanged number (omega arith) most (rw (is, images-kept (b .drive) images, drives-kept (b .drive) c))
-
-  pub all-answered : Answered c area images (execute c block given area images)
-  unfolding execute onDrive
-  all-answered =
-      let b = blockOf block in
-      pick-both (Answered c area images) (eqb (length block) 6) _ _
-      (left-answered b _ _ (obeyed b given (length area) (driveAt c (b .drive)) (c .buffer) (imageOf (b .drive) images)))
-      (unchanged 1 (omega arith) (omega arith) refl)

@@ -7,10 +7,7 @@ use native.Mathlib.Omega.{arith}
 use native.Mathlib.Nat.{zero-add}
 use lib.ListN.{length, take, drop}
 use lib.Seq.{take-at, drop-append-seam}
-use lib.Dec.{eqb}
-use borrow.Author.Tests.{eq-eqb}
 use Rattle.base.specs.Part.{part, splice}
-use Rattle.base.proofs.Decide.{pick-both}
 use Rattle.geometry.specs.declared.params.Track.{Track}
 use Rattle.geometry.specs.declared.params.Params.{Params}
 use Rattle.geometry.specs.declared.config.Setting.the-variants.{Valid}
@@ -30,19 +27,41 @@ use Rattle.model.specs.declared.table.DiskCommand.the-variants.{SectorWo
 use Rattle.model.specs.declared.table.SectorCommand.the-variants.{Write}
 use Rattle.model.specs.declared.record.Drive.{Drive}
 use Rattle.model.specs.declared.record.Controller.{Controller}
-use Rattle.model.specs.Block.{blockOf, countOf}
+use Rattle.model.specs.Block.{blockOf, countOf, isWhole, isCopy}
 use Rattle.model.specs.Table.{rowFor}
 use Rattle.model.specs.Record.{driveAt, settingIn, refused, Effect, effect}
 use Rattle.model.specs.Commands.{transferred, write, doSectors, doDisk, carryOut}
 use Rattle.model.specs.Engine.{Result, viewOf, obey, imageOf, left, onDrive, execute}
 use Rattle.model.proofs.engine.Leaving.{Makes, Fills, Hands, LeavesBy, Writes, untouched as as-lent, Obeyed, answered, denied, obeyed, images-kept}
-use Rattle.model.proofs.engine.Leaving.{unmoved, Answered, accepted, unchanged, all-answered}
+use Rattle.model.proofs.engine.Leaving.{unmoved, drives-kept}
+use Rattle.model.proofs.engine.Blocks.{by-block, six-whole, other-row}
+use Rattle.model.proofs.engine.CopyLeaves.{copy-leaves}
 use Rattle.model.proofs.engine.Assembled.{drive-below, own-entry, other-entry, other-image}
 use Rattle.model.proofs.engine.Beyond.{unless-left}
 use Rattle.model.proofs.engine.Written.{Written, written-none, writes}
-use Rattle.model.proofs.records.Calls.{good-image, to-write, six-bytes, its-image}
+use Rattle.model.proofs.records.Calls.{good-image, to-write, one-drive, its-image}
 
 -- ---- (a) Number 1, 2 or 3: status, message and counts 0, and controller, area and images as they were. There is no other number.
+data Answered (c : Controller) (area : List ℕ) (images : List (List ℕ)) (r : Result) : Type 0 where
+  accepted : r .outcome .answer .number ≡ 0 → Answered c area images r
+  unchanged : (number : ℕ) → 1 ≤ number → number ≤ 3 → r ≡ unmoved c area images number → Answered c area images r
+
+module _ (c : Controller) (block given area : List ℕ) (images : List (List ℕ)) where
+  left-answered : (b : Block) (command : Command) (e : Effect) → Obeyed b given (driveAt c (b .drive)) (c .buffer) (imageOf (b .drive) images) command e
+      → Answered c area images (left (b .drive) e c area images)
+  unfolding left refused splice
+  left-answered b command e (answered ends) = accepted (ends .number)
+  left-answered b command e (denied number least most is) =
+      unchanged number (omega arith) most (rw (is, images-kept (b .drive) images, drives-kept (b .drive) c))
+
+  all-answered : Answered c area images (execute c block given area images)
+  unfolding onDrive
+  all-answered =
+      let b = blockOf block in
+      by-block c block given area images (Answered c area images) (λ whole copy. accepted (copy-leaves c block area images copy .number))
+      (λ whole other. left-answered b _ _ (obeyed b given (length area) (driveAt c (b .drive)) (c .buffer) (imageOf (b .drive) images)))
+      (λ none. unchanged 1 (omega arith) (omega arith) refl)
+
 module _ (c : Controller) (block given area : List ℕ) (images : List (List ℕ)) where
   abbrev result : Result
   result = execute c block given area images
@@ -56,8 +75,8 @@ module _ (c : Controller) (block given area : List ℕ) (images : List (List ℕ
       by (accepted z) = absurd (omega arith)
       by (unchanged number least most is) = rw is (most, refl)
 
--- ---- (b) Number 0: entry, buffer, bytes handed over and image are what the command makes of them, by its status
-module _ (c : Controller) (block given area : List ℕ) (images : List (List ℕ)) (six : length block ≡ 6) where
+-- ---- (b) Number 0, of a command of one drive: entry, buffer, bytes handed over and image are what it makes of them, by its status
+module _ (c : Controller) (block given area : List ℕ) (images : List (List ℕ)) (whole : isWhole block ≡ true) (other : isCopy block ≡ false) where
   abbrev b : Block
   b = blockOf block
 
@@ -74,7 +93,7 @@ module _ (c : Controller) (block given area : List ℕ) (images : List (List ℕ
   after = execute c block given area images
 
   left-it : after ≡ left (b .drive) done c area images
-  left-it = six-bytes c block given area images (eq-eqb (length block) 6 six)
+  left-it = one-drive c block given area images whole other
 
   leaves : after .outcome .answer .number ≡ 0 → LeavesBy b given entry (c .buffer) (imageOf (b .drive) images) command done
   unfolding left refused
@@ -147,7 +166,8 @@ module _ (c : Controller) (block given area : List ℕ) (images : List (List ℕ
   module _ (is : rowFor (w .opcode) .command ≡ OnDisk (SectorWork Write)) (valid : settingIn (mediumOf (w .drive)) (driveAt c (w .drive)) (length before) ≡ Valid p) where
     all-written : Written p (countOf w) (w .address) before written
     all-written =
-        rw (six-bytes c block given area images (eq-eqb (length block) 6 six), its-image c block given area images)
+        let other = other-row block _ is (λ e. let z : _≡_ {A = ℕ} 0 1 = cc in omega arith) in
+        rw (one-drive c block given area images (six-whole block other six) other, its-image c block given area images)
         (write-obeyed w given (length area) (driveAt c (w .drive)) (c .buffer) before p is valid)
 
     label-kept : part 0 16 written ≡ part 0 16 before
@@ -190,8 +210,12 @@ module _ (given : List ℕ) where
 
   initialize-leaves : (c : Controller) (block area : List ℕ) (images : List (List ℕ)) → blockOf block .opcode ≡ 0x11
       → execute c block given area images .images ≡ images
-  unfolding execute onDrive
+  unfolding onDrive rowFor
   initialize-leaves c block area images is =
       let drive = blockOf block .drive in
-      pick-both (λ (r : Result). r .images ≡ images) (eqb (length block) 6) _ _
-      (left-kept drive _ c area images (initialize-obeyed (blockOf block) (length area) (driveAt c drive) (c .buffer) (imageOf drive images) is)) refl
+      let row : rowFor (blockOf block .opcode) .command ≡ Free Initialize = ap (λ (opcode : ℕ). rowFor opcode .command) is in
+      by-block c block given area images (λ (r : Result). r .images ≡ images)
+      (λ whole copy. absurd (true≢false (sym copy ∙ other-row block _ row (λ e. let z : _≡_ {A = ℕ} 0 1 = cc in omega arith))))
+      (λ whole other.
+      left-kept drive _ c area images (initialize-obeyed (blockOf block) (length area) (driveAt c drive) (c .buffer) (imageOf drive images) is))
+      (λ none. refl)

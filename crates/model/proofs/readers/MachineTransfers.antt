@@ -21,7 +21,7 @@ use Rattle.model.specs.Block.{countOf}
 use Rattle.model.specs.Checks.{judged}
 use Rattle.model.specs.Sense.{senseOf}
 use Rattle.model.specs.Feed.{Reply}
-use Rattle.model.specs.Machine.{Kind, bad, taken, Disk, Machine, changed, withSense, storing, failing, denied, Passage, finished, withFirst, passing}
+use Rattle.model.specs.Machine.{Kind, bad, taken, Disk, Machine, changed, withSense, storing, denied, Passage, finished, withFirst, passing, failingOn}
 use Rattle.model.specs.Machine.{readFrom, writeFrom, inARow, transferBy, transfer, read, write}
 use Rattle.model.specs.Claim.{isHeld}
 use Rattle.model.proofs.engine.Checked.{count-some}
@@ -57,7 +57,7 @@ Fails b code at k handed r =
 
 transfer-fails : (b : Block) (code : ℕ) (at : Lba) (x : Passage) (handed : List ℕ) (m : Machine) (k : ℕ) → x .end ≡ Faulty code at
     → length (x .sectors) ≡ k → Fails b code at k handed (transfer b x handed m)
-unfolding Fails transfer transferBy failing withSense changed
+unfolding Fails transfer transferBy failingOn withSense changed
 transfer-fails b code at x handed m k e l = rw (e, l) (refl, pick-true _ _ _ (eq-eqb (b .drive) (b .drive) refl))
 
 module _ (p : Params) where

@@ -1,22 +1,23 @@
 -- Parameters are pending exactly when the label does not hold them: fresh, and after every call, whatever the images.
 use Prim.Native.Nat.{ℕ, _≤_, _<_}
 use mathlib.Core.Path.{_≡_, refl, _∙_}
+use mathlib.Core.Bool.{true}
 use mathlib.Core.List.{List, [], _∷_}
 use native.Mathlib.Omega.{arith}
 use native.Mathlib.Decide.{ℕ-discrete, decLt}
 use lib.ListN.{length, List·getD-eq-default}
-use lib.Dec.{eqb}
-use Rattle.base.proofs.Decide.{pick-both}
 use Rattle.geometry.specs.Medium.{mediumOf}
 use Rattle.model.specs.declared.record.Controller.{Controller}
-use Rattle.model.specs.Block.{blockOf}
+use Rattle.model.specs.Block.{blockOf, isCopy, copyOf}
 use Rattle.model.specs.Record.{blankDrive, driveAt, Effect}
-use Rattle.model.specs.Engine.{obey, Result, imageOf, left, onDrive, execute, fresh, resetOf}
+use Rattle.model.specs.Engine.{obey, Result, imageOf, left, onDrive, onDrives, execute, fresh, resetOf}
 use Rattle.model.specs.Claim.{System, Call, Reset, Command, replied, called, engineAtEnd, begin}
 use Rattle.model.proofs.engine.Assembled.{drive-below, drives-length, own-entry, other-entry, own-image, other-image}
 use Rattle.model.proofs.engine.Beyond.{outside-kept}
+use Rattle.model.proofs.engine.Blocks.{by-block}
+use Rattle.model.proofs.engine.CopyLeaves.{copy-leaves}
 use Rattle.model.proofs.claim.Restarted.{fresh-drive}
-use Rattle.model.proofs.readers.PendingDrives.{PendingByLabel, blank-pending, loaded-pending, obey-pending}
+use Rattle.model.proofs.readers.PendingDrives.{PendingByLabel, blank-pending, loaded-pending, pending-kept, obey-pending}
 
 -- all drives, of which there are four; one past them has no parameters
 pub record AllPendingByLabel (c : Controller) (images : List (List ℕ)) : Type 0 where
@@ -57,17 +58,30 @@ module _ (c : Controller) (area : List ℕ) (images : List (List ℕ)) (told : A
       by d (yes q) = rw (q, own-entry drive e c area images (omega (arith, told .four)), own-image drive e c area images len) new
       by d (no q) = rw (other-entry drive e c area images d q, other-image drive e c area images d q) (told .drives d)
 
+  -- a Copy changes no label, and of the entries a sense alone
+  copy-by-label : (block : List ℕ) → isCopy block ≡ true → AllIn (systemOf (onDrives (copyOf block) c area images))
+  copy-by-label block copy =
+      let left-it = copy-leaves c block area images copy in
+      record {
+        four = left-it .drives ∙ told .four;
+        drives = λ d.
+            let entry = left-it .entries d in
+            let image = left-it .outside d in
+            pending-kept (mediumOf d) (driveAt c d) (driveAt (onDrives (copyOf block) c area images .outcome .controller) d) _ _ (entry .config) (entry .known) (entry .pending) (record { len = image .len; label = image .below }) (told .drives d);
+      }
+
   execute-by-label : (block given : List ℕ) → AllIn (systemOf (execute c block given area images))
-  unfolding execute onDrive
+  unfolding onDrive
   execute-by-label block given =
       let b = blockOf block in
       let entry = driveAt c (b .drive) in
       let image = imageOf (b .drive) images in
-      pick-both (λ (r : Result). AllIn (systemOf r)) (eqb (length block) 6) _ _
-      (left-by-label (b .drive) (obey b given (length area) entry (c .buffer) image) (drive-below block)
+      by-block c block given area images (λ (r : Result). AllIn (systemOf r)) (λ whole copy. copy-by-label block copy)
+      (λ whole other.
+      left-by-label (b .drive) (obey b given (length area) entry (c .buffer) image) (drive-below block)
       (outside-kept b given (length area) entry (c .buffer) image 0 (omega arith) (λ is. refl) .len)
       (obey-pending b given (length area) entry (c .buffer) image (told .drives (b .drive))))
-      told
+      (λ none. told)
 
 call-by-label : (s : System) (call : Call) → AllIn s → AllIn (called s call .1)
 unfolding called replied resetOf

@@ -26,7 +26,7 @@ use Rattle.model.specs.declared.verdict.Verdict.{Verdict}
 use Rattle.model.specs.declared.verdict.Verdict.the-variants.{Refused, Faulty, Passed}
 use Rattle.model.specs.Table.{TableRow, rowFor}
 use Rattle.model.specs.Checks.{judge}
-use Rattle.model.specs.Record.{blankDrive, sensed, settingIn, refused, failed, good, unless, Effect, effect, made}
+use Rattle.model.specs.Record.{blankDrive, sensed, settingIn, refused, failed, good, unless, Effect, effect, made, unlessNamed}
 use Rattle.model.specs.Commands.{pendingEnded, formatDrive, initialized, doTrack, asEffect, doDisk, carryOut}
 use Rattle.model.specs.Engine.{viewOf, obey, loaded}
 use Rattle.model.proofs.engine.Checked.{opcodeFor, row-of}
@@ -64,6 +64,12 @@ format-holds medium config after p is valid =
 holds-kept : (medium : Medium) (image after config : List ℕ) → KeepsLabel image after → labelHolds medium after config ≡ labelHolds medium image config
 unfolding labelHolds
 holds-kept medium image after config keeps = rw (label-same medium image after keeps, keeps .label 0 10 (omega arith))
+
+-- an entry of which only the sense has changed, and the same label
+pub pending-kept : (medium : Medium) (before after : Drive) (image now : List ℕ) → after .config ≡ before .config → after .known ≡ before .known
+    → after .pending ≡ before .pending → KeepsLabel image now → PendingByLabel medium before image → PendingByLabel medium after now
+pending-kept medium before after image now config known pending keeps told on =
+    pending ∙ told (sym known ∙ on) ∙ rw config (ap not (sym (holds-kept medium image now (before .config) keeps)))
 
 -- ---- Commands
 format? : (opcode : ℕ) → Dec (rowFor opcode .command ≡ OnDisk (TrackWork FormatDrive))
@@ -105,7 +111,7 @@ module _ (b : Block) (given : List ℕ) (area : ℕ) (entry : Drive) (buffer ima
 
   unless-leaves : {A : Type 0} (run : A → Effect) (v : Verdict) (keep : Ending → A) (after : A) → ((e : Ending) → run (keep e) ≡ effect e buffer [] image)
       → (v ≡ Passed → AfterIt (run after)) → AfterIt (run (unless v (b .drive) entry keep after))
-  unfolding unless refused
+  unfolding unlessNamed refused
   unless-leaves run (Refused number) keep after is new = rw (is (refused number entry)) told
   unless-leaves run (Faulty code at) keep after is new = rw (is (failed (b .drive) (b .drive) code at 0 0 entry)) (failed-leaves code at)
   unless-leaves run Passed keep after is new = new refl

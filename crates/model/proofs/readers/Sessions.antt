@@ -26,14 +26,14 @@ use Rattle.track.specs.declared.find.Sector.the-variants.{Slot}
 use Rattle.track.specs.Find.{sectorFound}
 use Rattle.sectors.specs.Transfer.{found}
 use Rattle.contents.specs.Content.{Bytes, contentIn, contentOf}
-use Rattle.model.specs.Block.{blockOf, countOf, fromBuffer}
+use Rattle.model.specs.Block.{blockOf, countOf, fromBuffer, isWhole, blockLength, isCopy}
 use Rattle.model.specs.Table.{checkNumber, isAmong, rowFor}
 use Rattle.model.specs.Checks.{judged, presentWith, isUnknown, blockWrong, controlWrong, withParams, interleaveWrong, pastEnd, notSpared, sizeIn, bytesOf, reachOf, hitsOf, inOrder, judge}
 use Rattle.model.specs.Sense.{addressed, senseOf}
 use Rattle.model.specs.Feed.{Feed, reset, command, Reply}
 use Rattle.model.specs.Engine.{imagesOf, imageOf}
-use Rattle.model.specs.Machine.{Disk, Machine, freshDisk, freshMachine, changed, withSense, withBuffer, withDisk, inForce, becomes, filled, storing}
-use Rattle.model.specs.Machine.{failing, well, providing}
+use Rattle.model.specs.Machine.{Disk, Machine, freshDisk, freshMachine, changed, withSense, withBuffer, withDisk, inForce, becomes, filled, storing, failingOn, providingOn}
+use Rattle.model.specs.Machine.{well}
 use Rattle.model.specs.Machine.{isBad, isMoved, isTaken, denied, paired, parted, partedBy, someParted, addressGiven, unassignable}
 use Rattle.model.specs.Machine.{finished, withFirst, passing, readFrom, writeFrom, inARow, leaving, transferBy, transfer}
 use Rattle.model.specs.Machine.{fillingOn, filling, fromOn, reformatted}
@@ -44,6 +44,8 @@ use Rattle.model.specs.Claim.{begin, beginMachine, isHeld, Holds, Claim}
 use Rattle.model.proofs.claim.Claimed.{claimed}
 use Rattle.model.proofs.anchors.Session.{Line, allTold, lengthsOf, Answers, six, config, session, worked}
 use Rattle.model.proofs.anchors.Floppies.{lacking, mistaking, formatting, transferring, marking, worked as floppies-worked}
+use Rattle.model.proofs.anchors.CopySessions.{there-and-back, filled-up, on-one-drive, in-order as copies-in-order, lacking as copies-lacking}
+use Rattle.model.proofs.anchors.CopySessions.{bad-source, bad-destination, both-bad, in-pairs as copies-in-pairs, count-zero, worked as copies-worked}
 use Rattle.model.proofs.anchors.Leaves.{leaves, after-start, well-done, tracks-made, moved-bytes, cut-short, at-fault, in-pairs, in-order, turned-away, reset-all}
 
 -- ---- Zeros are no label, of a hard disk or of a floppy: the claim holds for four zero images of any lengths
@@ -159,6 +161,27 @@ engine-leaves =
       answers (after-start reset-all) (leaves .8),
     )
 
+-- and those with copies
+engine-copies : EngineAnswers 8464 8856 4368 0 there-and-back × EngineAnswers 8464 8856 4368 0 filled-up
+    × EngineAnswers 8464 8856 4368 0 on-one-drive × EngineAnswers 8464 8856 4368 0 copies-in-order
+    × EngineAnswers 8464 8856 4368 0 copies-lacking × EngineAnswers 8464 8856 4368 0 bad-source
+    × EngineAnswers 8464 8856 4368 0 bad-destination × EngineAnswers 25360 8856 4368 0 both-bad
+    × EngineAnswers 25360 8856 4368 0 copies-in-pairs × EngineAnswers 0 35376 34832 0 count-zero
+engine-copies =
+    let answers = engine-answers 8464 8856 4368 0 in
+    let answers-three = engine-answers 25360 8856 4368 0 in (
+      answers there-and-back (copies-worked .0),
+      answers filled-up (copies-worked .1),
+      answers on-one-drive (copies-worked .2),
+      answers copies-in-order (copies-worked .3),
+      answers copies-lacking (copies-worked .4),
+      answers bad-source (copies-worked .5),
+      answers bad-destination (copies-worked .6),
+      answers-three both-bad (copies-worked .7),
+      answers-three copies-in-pairs (copies-worked .8),
+      engine-answers 0 35376 34832 0 count-zero (copies-worked .9),
+    )
+
 -- ---- What was saved is found: three tracks are formatted, track 1 is moved to 2, and two sectors are written, the last of track 0
 -- and the first of track 1. By the claim's second half the image has them.
 three : Params
@@ -188,13 +211,13 @@ Kept u = (u .stored ≡ some (config 3))
     × (isHeld (u .kind (trackOf three (at 32))) ≡ true) × (u .held (at 32) ≡ replicate 256 8)
 
 machine-keeps : Kept disk
-unfolding three at saving disk six config isHeld fed atEnd lengthsOf pick sameBytes mediumOf isFloppy isIn rangesOf sizeFor fittedTo
-    fieldsIn settingBy settingOf
-    blockOf countOf fromBuffer rowFor presentWith judge judged inOrder hitsOf isUnknown blockWrong controlWrong withParams interleaveWrong pastEnd notSpared isValid reachOf sizeIn bytesOf isAmong checkNumber
-    addressed senseOf freshDisk freshMachine changed withSense withBuffer withDisk inForce becomes filled storing failing well providing
-    isBad isMoved isTaken denied paired parted partedBy someParted addressGiven unassignable finished withFirst passing readFrom writeFrom
-    inARow leaving transferBy transfer fillingOn filling fromOn reformatted formatDrive checkTrack formatTrack formatBadTrack read write
-    assignTo assignAlternate isStored initializeBy freely seeking onTracks onSectors withParameters carried settingWith seen ordered restored step
+unfolding three at saving disk six config isHeld fed atEnd lengthsOf pick sameBytes mediumOf isFloppy isIn rangesOf sizeFor fittedTo fieldsIn
+    settingBy settingOf blockOf countOf fromBuffer rowFor presentWith judge judged inOrder hitsOf isUnknown blockWrong controlWrong withParams
+    interleaveWrong pastEnd notSpared isValid reachOf sizeIn bytesOf isAmong checkNumber addressed senseOf freshDisk freshMachine changed withSense
+    withBuffer withDisk inForce becomes filled storing failingOn well providingOn isBad isMoved isTaken denied paired parted partedBy someParted
+    addressGiven unassignable finished withFirst passing readFrom writeFrom inARow leaving transferBy transfer fillingOn filling fromOn reformatted
+    formatDrive checkTrack formatTrack formatBadTrack read write assignTo assignAlternate isStored initializeBy freely seeking onTracks onSectors
+    withParameters carried settingWith seen ordered restored step isWhole blockLength isCopy
 machine-keeps = (refl, refl, refl, refl, refl)
 
 -- the configuration gives these parameters, if any

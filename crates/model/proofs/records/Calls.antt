@@ -22,7 +22,7 @@ use Rattle.contents.proofs.Laws.{Given}
 use Rattle.contents.proofs.Laws
 use Rattle.model.specs.declared.block.Block.{Block}
 use Rattle.model.specs.declared.table.Command.{Command}
-use Rattle.model.specs.declared.table.Command.the-variants.{Free, OnDisk, Unknown}
+use Rattle.model.specs.declared.table.Command.the-variants.{Free, OnDisk, Copy, Unknown}
 use Rattle.model.specs.declared.table.FreeCommand.{FreeCommand}
 use Rattle.model.specs.declared.table.FreeCommand.the-variants.{RequestSense, WriteBuffer, ReadBuffer, Initialize}
 use Rattle.model.specs.declared.table.DiskCommand.{DiskCommand}
@@ -36,20 +36,23 @@ use Rattle.model.specs.declared.record.Ending.{Ending}
 use Rattle.model.specs.declared.record.Controller.{Controller}
 use Rattle.model.specs.declared.verdict.Verdict.{Verdict}
 use Rattle.model.specs.declared.verdict.Verdict.the-variants.{Passed}
-use Rattle.model.specs.Block.{blockOf, countOf}
+use Rattle.model.specs.Block.{blockOf, countOf, isWhole, isCopy, copyOf}
 use Rattle.model.specs.Table.{checkNumber, isAmong, rowFor}
 use Rattle.model.specs.Checks.{bytesOf, sizeIn, judge}
-use Rattle.model.specs.Record.{driveAt, settingIn, refused, failed, unless, Effect, effect}
+use Rattle.model.specs.Record.{driveAt, settingIn, refused, failed, unless, Effect, effect, unlessNamed}
 use Rattle.model.specs.Commands.{transferred, read, doFree, doTrack, doSectors, asEffect, doDisk, carryOut}
-use Rattle.model.specs.Engine.{viewOf, obey, Result, imageOf, left, onDrive, execute}
-use Rattle.model.specs.Records.{isGood, onTracks, namedBy, named, NoOtherRecord, NoneWithoutParameters, PastStays, WrittenReads, GoodWrites, SlotsApart}
+use Rattle.model.specs.Engine.{viewOf, obey, Result, imageOf, left, onDrive, leftByCopy, onDrives, execute}
+use Rattle.model.specs.Records.{isGood, onTracks, namedBy, namedByCopy, named, NoOtherRecord, NoneWithoutParameters, PastStays, WrittenReads, GoodWrites, SlotsApart}
 use Rattle.model.proofs.engine.Checked.{opcodeFor, track-cleared, count-cleared}
 use Rattle.model.proofs.engine.Leaving.{Verdicts, second, third, fault, pass, judge-by, read-image}
 use Rattle.model.proofs.engine.Beyond.{clear, w, fits, ten, outside-kept}
-use Rattle.model.proofs.engine.Outside.{Outside, outside-self}
+use Rattle.model.proofs.engine.Outside.{Outside, outside-self, outside-less}
 use Rattle.model.proofs.engine.Assembled.{other-image, own-image}
+use Rattle.model.proofs.engine.Blocks.{by-block, of-one-drive, six-whole, other-row}
+use Rattle.model.proofs.engine.CopyLeaves.{by-copy, copy-leaves}
 use Rattle.model.proofs.records.Commands.{format-track-other, format-bad-track-other, format-drive-other, assign-alternate-other}
 use Rattle.model.proofs.records.Commands.{not-good, write-other, write-given, write-whole}
+use Rattle.model.proofs.records.Copies.{copy-spares}
 
 -- ---- A command that has not passed counts no sector, leaves the image, and does not end with good status
 record NotDone (drive : ℕ) (x : Ending) : Type 0 where
@@ -59,7 +62,7 @@ record NotDone (drive : ℕ) (x : Ending) : Type 0 where
 by-verdict : (P : Effect → Type 0) (drive : ℕ) (entry : Drive) (buffer image : List ℕ) (after : Effect) {v : Verdict} → Verdicts true v
     → ((x : Ending) → NotDone drive x → P (effect x buffer [] image)) → (v ≡ Passed → P after)
     → P (unless v drive entry (λ e. effect e buffer [] image) after)
-unfolding unless refused failed isGood
+unfolding unlessNamed refused failed isGood
 by-verdict P drive entry buffer image after second old new = old _ (record { none = refl; bad = refl })
 by-verdict P drive entry buffer image after third old new = old _ (record { none = refl; bad = refl })
 by-verdict P drive entry buffer image after (fault code at some) old new = old _ (record { none = refl; bad = not-good drive 0 0 })
@@ -137,6 +140,7 @@ module _ (b : Block) (given : List ℕ) (area : ℕ) (entry : Drive) (buffer ima
     carried-spares (Free command) is off = free-spares command off
     carried-spares (OnDisk command) is off = disk-spares command is off
     carried-spares Unknown is off = refl
+    carried-spares Copy is off = refl
 
   -- ---- what a Write counts as done
   written-given : rowFor (b .opcode) .command ≡ OnDisk (SectorWork Write)
@@ -199,17 +203,9 @@ module _ (c : Controller) (block given area : List ℕ) (images : List (List ℕ
   abbrev result : Result
   result = left (b .drive) done c area images
 
-  pub six-bytes : eqb (length block) 6 ≡ true → execute c block given area images ≡ result
-  unfolding execute onDrive
-  six-bytes e = pick-true _ _ _ e
-
-  pub not-six : eqb (length block) 6 ≡ false → execute c block given area images .images ≡ images
-  unfolding execute
-  not-six e = ap (λ (r : Result). r .images) (pick-false (eqb (length block) 6) _ _ e)
-
-  pub not-six-record : eqb (length block) 6 ≡ false → execute c block given area images .outcome .controller ≡ c
-  unfolding execute
-  not-six-record e = ap (λ (r : Result). r .outcome .controller) (pick-false (eqb (length block) 6) _ _ e)
+  pub one-drive : isWhole block ≡ true → isCopy block ≡ false → execute c block given area images ≡ result
+  unfolding onDrive
+  one-drive whole other = of-one-drive c block given area images whole other
 
   pub its-image : imageOf (b .drive) (result .images) ≡ done .image
   its-image =
@@ -233,11 +229,20 @@ module _ (c : Controller) (block given area : List ℕ) (images : List (List ℕ
         (ap (contentOf p a) its-image
         ∙ obey-spares b given (length area) (driveAt c (b .drive)) (c .buffer) image p (rw (← z) at valid) a ha (rw (← z, its-answer) at off))
 
-    by-length : (six : Bool) → eqb (length block) 6 ≡ six
-        → (six && namedBy d p b given (execute c block given area images .outcome .answer) a (rowFor (b .opcode) .command)) ≡ false
-        → Same (execute c block given area images)
-    by-length false e off = ap (λ (l : List (List ℕ)). contentOf p a (imageOf d l)) (not-six e)
-    by-length true e off = rw (six-bytes e) (on-its-drive (eqb (b .drive) d) refl (rw (six-bytes e) at off))
+    -- a Copy names the destination sectors done
+    by-copies : (copy : isCopy block ≡ true) → namedByCopy d (copyOf block) (onDrives (copyOf block) c area images .outcome .answer) a ≡ false
+        → Same (onDrives (copyOf block) c area images)
+    unfolding leftByCopy
+    by-copies copy =
+        by-copy c block area images copy (λ (r : Result). namedByCopy d (copyOf block) (r .outcome .answer) a ≡ false → Same r)
+        (λ named code at some off. refl) (λ q s copies off. copy-spares c block area images copy d p valid a ha q s copies off)
+
+    by-call : named d p block given (execute c block given area images .outcome .answer) a ≡ false → Same (execute c block given area images)
+    unfolding named onDrive
+    by-call =
+        by-block c block given area images (λ (r : Result). named d p block given (r .outcome .answer) a ≡ false → Same r)
+        (λ whole copy off. by-copies copy (rw (whole, copy, pick-true true _ _ refl) at off))
+        (λ whole other off. on-its-drive (eqb (b .drive) d) refl (rw (whole, other, pick-false false _ _ refl) at off)) (λ off none. refl)
 
   -- bytes outside a drive's tracks
   module _ (d : ℕ) where
@@ -250,22 +255,26 @@ module _ (c : Controller) (block given area : List ℕ) (images : List (List ℕ
         let z : b .drive ≡ d = eqb-true _ _ e in
         rw (← z, its-image) (outside-kept b given (length area) (driveAt c (b .drive)) (c .buffer) image 0 (omega arith) (λ is. refl))
 
-    beyond : (six : Bool) → eqb (length block) 6 ≡ six → Beyond (execute c block given area images)
-    beyond false e = rw (not-six e) (outside-self 0 _ (imageOf d images))
-    beyond true e = rw (six-bytes e) (beyond-drive (eqb (b .drive) d) refl)
+    beyond : Beyond (execute c block given area images)
+    unfolding onDrive
+    beyond =
+        by-block c block given area images Beyond
+        (λ whole copy. outside-less 0 _ 16 (omega arith) _ _ (copy-leaves c block area images copy .outside d))
+        (λ whole other. beyond-drive (eqb (b .drive) d) refl) (λ none. outside-self 0 _ (imageOf d images))
 
 -- What a command does not name reads as before.
 pub no-other-record : NoOtherRecord
-unfolding NoOtherRecord named
-no-other-record c block given area images d p valid a ha off = by-length c block given area images d p valid a ha (eqb (length block) 6) refl off
+unfolding NoOtherRecord
+no-other-record c block given area images d p valid a ha off = by-call c block given area images d p valid a ha off
 
 -- What a Write counts as done reads as the data given.
 pub written-reads : WrittenReads
 unfolding WrittenReads
 written-reads c block given area images p six is valid =
     let b = blockOf block in
+    let other = other-row block _ is (λ e. let z : _≡_ {A = ℕ} 0 1 = cc in omega arith) in
     let r = obey-writes b given (length area) (driveAt c (b .drive)) (c .buffer) (imageOf (b .drive) images) p valid is in
-    rw (six-bytes c block given area images (eq-eqb _ _ six), its-answer c block given area images, its-image c block given area images) (r .0)
+    rw (one-drive c block given area images (six-whole block other six) other, its-answer c block given area images, its-image c block given area images) (r .0)
 
 -- A Write with good status had parameters, and has done all its sectors.
 pub good-writes : GoodWrites
@@ -274,20 +283,21 @@ good-writes c block given area images six is ok =
     let b = blockOf block in
     let entry = driveAt c (b .drive) in
     let image = imageOf (b .drive) images in
-    let left-it = six-bytes c block given area images (eq-eqb _ _ six) in
+    let other = other-row block _ is (λ e. let z : _≡_ {A = ℕ} 0 1 = cc in omega arith) in
+    let left-it = one-drive c block given area images (six-whole block other six) other in
     let r = obey-good b given (length area) entry (c .buffer) image is _ refl (rw (left-it, its-answer c block given area images) at ok) in
     (r .0, r .1, rw (left-it, its-answer c block given area images) (r .2))
 
 -- Of a drive without parameters no byte changes.
 pub none-without-parameters : NoneWithoutParameters
 unfolding NoneWithoutParameters
-none-without-parameters c block given area images d none = beyond c block given area images d (eqb (length block) 6) refl .all none
+none-without-parameters c block given area images d none = beyond c block given area images d .all none
 
 -- The bytes past a drive's last track stay, and the length.
 pub past-stays : PastStays
 unfolding PastStays
 past-stays c block given area images d =
-    let r = beyond c block given area images d (eqb (length block) 6) refl in (r .len, r .past)
+    let r = beyond c block given area images d in (r .len, r .past)
 
 -- Two addresses never share a slot.
 pub slots-apart : SlotsApart

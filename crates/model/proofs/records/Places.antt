@@ -16,7 +16,7 @@ use Rattle.geometry.specs.declared.config.Setting.the-variants.{Valid, Invalid}
 use Rattle.geometry.specs.Medium.{mediumOf}
 use Rattle.model.specs.declared.block.Block.{Block}
 use Rattle.model.specs.declared.table.Command.{Command}
-use Rattle.model.specs.declared.table.Command.the-variants.{Free, OnDisk, Unknown}
+use Rattle.model.specs.declared.table.Command.the-variants.{Free, OnDisk, Copy, Unknown}
 use Rattle.model.specs.declared.table.FreeCommand.{FreeCommand}
 use Rattle.model.specs.declared.table.FreeCommand.the-variants.{RequestSense, WriteBuffer, ReadBuffer, Initialize}
 use Rattle.model.specs.declared.table.DiskCommand.the-variants.{ArmWork, TrackWork, SectorWork}
@@ -27,15 +27,17 @@ use Rattle.model.specs.declared.verdict.Verdict.{Verdict}
 use Rattle.model.specs.declared.verdict.Verdict.the-variants.{Refused, Faulty, Passed}
 use Rattle.model.specs.Block.{blockOf}
 use Rattle.model.specs.Table.{rowFor}
-use Rattle.model.specs.Record.{driveAt, blankDrive, sensed, failed, good, refused, settingIn, unless, Effect, effect, Made, made}
+use Rattle.model.specs.Record.{driveAt, blankDrive, sensed, failed, good, refused, settingIn, unless, Effect, effect, Made, made, unlessNamed}
 use Rattle.model.specs.Commands.{pendingEnded, formatDrive, initialized, initializedBy, initialize, doFree, doTrack, asEffect, doDisk, carryOut}
 use Rattle.model.specs.Engine.{viewOf, obey, Result, imageOf, left, onDrive, execute}
 use Rattle.model.specs.Records.{isGood, Is, LabelStays, ParametersStay}
 use Rattle.model.proofs.engine.Leaving.{Makes, coded, cleared, kept, initial, formatted, LeavesBy, Obeyed, answered, denied, obeyed}
 use Rattle.model.proofs.engine.Beyond.{unless-left, outside-kept}
 use Rattle.model.proofs.engine.Assembled.{other-entry, other-image}
+use Rattle.model.proofs.engine.Blocks.{by-block, whole-six}
+use Rattle.model.proofs.engine.CopyLeaves.{copy-leaves}
 use Rattle.model.proofs.records.Commands.{is-good}
-use Rattle.model.proofs.records.Calls.{six-bytes, not-six, not-six-record, its-image, its-answer}
+use Rattle.model.proofs.records.Calls.{its-image, its-answer}
 
 -- ---- Which command it is
 is-format : (command : Command) → Dec (command ≡ OnDisk (TrackWork FormatDrive))
@@ -48,6 +50,7 @@ is-format (OnDisk (ArmWork command)) = no (λ e. let z : _≡_ {A = ℕ} 0 1 = c
 is-format (OnDisk (SectorWork command)) = no (λ e. let z : _≡_ {A = ℕ} 0 1 = cc in omega arith)
 is-format (Free command) = no (λ e. let z : _≡_ {A = ℕ} 0 1 = cc in omega arith)
 is-format Unknown = no (λ e. let z : _≡_ {A = ℕ} 0 1 = cc in omega arith)
+is-format Copy = no (λ e. let z : _≡_ {A = ℕ} 0 1 = cc in omega arith)
 
 is-initialize : (command : Command) → Dec (command ≡ Free Initialize)
 is-initialize (Free Initialize) = yes refl
@@ -56,6 +59,7 @@ is-initialize (Free WriteBuffer) = no (λ e. let z : _≡_ {A = ℕ} 0 1 = cc in
 is-initialize (Free ReadBuffer) = no (λ e. let z : _≡_ {A = ℕ} 0 1 = cc in omega arith)
 is-initialize (OnDisk command) = no (λ e. let z : _≡_ {A = ℕ} 0 1 = cc in omega arith)
 is-initialize Unknown = no (λ e. let z : _≡_ {A = ℕ} 0 1 = cc in omega arith)
+is-initialize Copy = no (λ e. let z : _≡_ {A = ℕ} 0 1 = cc in omega arith)
 
 not-true : (x : Bool) → (x ≡ true → ⊥) → x ≡ false
 not-true true h = absurd (h refl)
@@ -109,7 +113,7 @@ module _ (b : Block) (given : List ℕ) (area : ℕ) (entry : Drive) (buffer ima
   configured (Valid p) config bad = absurd (true≢false (sym (is-good (b .drive) 0 0) ∙ bad))
 
   failing : (v : Verdict) (after : Effect) → Kept after → Kept (unless v (b .drive) entry (λ e. effect e buffer [] image) after)
-  unfolding unless refused failed sensed
+  unfolding unlessNamed refused failed sensed
   failing (Refused number) after h bad = record { config = refl; known = refl }
   failing (Faulty code at) after h bad = record { config = refl; known = refl }
   failing Passed after h bad = h bad
@@ -162,7 +166,7 @@ module _ (c : Controller) (block given area : List ℕ) (images : List (List ℕ
   abbrev result : Result
   result = left (b .drive) done c area images
 
-  label-by : (own : Bool) → eqb (b .drive) d ≡ own → eqb (length block) 6 ≡ true
+  label-by : (own : Bool) → eqb (b .drive) d ≡ own → length block ≡ 6
       → (Is (OnDisk (TrackWork FormatDrive)) d block (result .outcome .answer) → ⊥) → part 0 16 (imageOf d (result .images)) ≡ part 0 16 (imageOf d images)
   unfolding Is
   label-by false e six h = ap (part 0 16) (other-image (b .drive) done c area images d (λ z. eqb-false _ _ e (sym z)))
@@ -171,19 +175,22 @@ module _ (c : Controller) (block given area : List ℕ) (images : List (List ℕ
       rw (← z)
       (ap (part 0 16) (its-image c block given area images)
       ∙ label-kept b given (length area) (driveAt c (b .drive)) (c .buffer) (imageOf (b .drive) images)
-      (λ is ok. h (eqb-true _ _ six, z, is, rw (← z) (rw (its-answer c block given area images) ok))))
+      (λ is ok. h (six, z, is, rw (← z) (rw (its-answer c block given area images) ok))))
 
-  label-at : (six : Bool) → eqb (length block) 6 ≡ six
-      → (Is (OnDisk (TrackWork FormatDrive)) d block (execute c block given area images .outcome .answer) → ⊥)
+  label-at : (Is (OnDisk (TrackWork FormatDrive)) d block (execute c block given area images .outcome .answer) → ⊥)
       → part 0 16 (imageOf d (execute c block given area images .images)) ≡ part 0 16 (imageOf d images)
-  label-at false e h = ap (λ (l : List (List ℕ)). part 0 16 (imageOf d l)) (not-six c block given area images e)
-  label-at true e h = let x = six-bytes c block given area images e in rw x (label-by (eqb (b .drive) d) refl e (rw x at h))
+  unfolding onDrive
+  label-at =
+      by-block c block given area images
+      (λ (r : Result). (Is (OnDisk (TrackWork FormatDrive)) d block (r .outcome .answer) → ⊥) → part 0 16 (imageOf d (r .images)) ≡ part 0 16 (imageOf d images))
+      (λ whole copy h. copy-leaves c block area images copy .outside d .below 0 16 (omega arith))
+      (λ whole other h. label-by (eqb (b .drive) d) refl (whole-six block other whole) h) (λ none h. refl)
 
   own-kept : Keeps (driveAt c (b .drive)) (done .ending .entry) → Keeps (driveAt c (b .drive)) (driveAt (result .outcome .controller) (b .drive))
   unfolding driveAt left
   own-kept k = stored-kept (c .drives) (b .drive) (done .ending .entry) k
 
-  entry-by : (own : Bool) → eqb (b .drive) d ≡ own → eqb (length block) 6 ≡ true
+  entry-by : (own : Bool) → eqb (b .drive) d ≡ own → length block ≡ 6
       → (Is (Free Initialize) d block (result .outcome .answer) → ⊥) → Keeps (driveAt c d) (driveAt (result .outcome .controller) d)
   unfolding Is
   entry-by false e six h = rw (other-entry (b .drive) done c area images d (λ z. eqb-false _ _ e (sym z))) (keeps-self (driveAt c d))
@@ -192,18 +199,21 @@ module _ (c : Controller) (block given area : List ℕ) (images : List (List ℕ
       rw (← z)
       (own-kept
       (entry-kept b given (length area) (driveAt c (b .drive)) (c .buffer) (imageOf (b .drive) images)
-      (λ is ok. h (eqb-true _ _ six, z, is, rw (← z) (rw (its-answer c block given area images) ok)))))
+      (λ is ok. h (six, z, is, rw (← z) (rw (its-answer c block given area images) ok)))))
 
-  entry-at : (six : Bool) → eqb (length block) 6 ≡ six
-      → (Is (Free Initialize) d block (execute c block given area images .outcome .answer) → ⊥)
+  entry-at : (Is (Free Initialize) d block (execute c block given area images .outcome .answer) → ⊥)
       → Keeps (driveAt c d) (driveAt (execute c block given area images .outcome .controller) d)
-  entry-at false e h = rw (not-six-record c block given area images e) (keeps-self (driveAt c d))
-  entry-at true e h = let x = six-bytes c block given area images e in rw x (entry-by (eqb (b .drive) d) refl e (rw x at h))
+  unfolding onDrive
+  entry-at =
+      by-block c block given area images
+      (λ (r : Result). (Is (Free Initialize) d block (r .outcome .answer) → ⊥) → Keeps (driveAt c d) (driveAt (r .outcome .controller) d))
+      (λ whole copy h. let x = copy-leaves c block area images copy .entries d in record { config = x .config; known = x .known })
+      (λ whole other h. entry-by (eqb (b .drive) d) refl (whole-six block other whole) h) (λ none h. keeps-self (driveAt c d))
 
 pub label-stays : LabelStays
 unfolding LabelStays
-label-stays c block given area images d h = label-at c block given area images d (eqb (length block) 6) refl h
+label-stays c block given area images d h = label-at c block given area images d h
 
 pub parameters-stay : ParametersStay
 unfolding ParametersStay
-parameters-stay c block given area images d h = let k = entry-at c block given area images d (eqb (length block) 6) refl h in (k .config, k .known)
+parameters-stay c block given area images d h = let k = entry-at c block given area images d h in (k .config, k .known)

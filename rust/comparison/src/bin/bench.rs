@@ -2,7 +2,8 @@
 //! side.
 //!
 //! `cargo run --offline --release --manifest-path rust/Cargo.toml --bin bench` prints a table of
-//! nanoseconds a call and of ratios. `bench count DISK ROW CALLS` prepares a disk and makes that many
+//! nanoseconds a call and of ratios, and one of copies from disk to disk, beside the library's own
+//! Read and Write of the same sectors. `bench count DISK ROW CALLS` prepares a disk and makes that many
 //! calls of the proved library, for `tests/instructions`, which has valgrind count them; `bench rows`
 //! lists disks and rows, and a count takes any `Read N`, `Write N` and `Format N tracks` besides.
 
@@ -35,7 +36,7 @@ struct Disk {
     rows: &'static [Row],
 }
 
-const DISKS: [Disk; 3] = [
+static DISKS: [Disk; 3] = [
     Disk {
         name: "small",
         drive: 0,
@@ -68,10 +69,35 @@ const DISKS: [Disk; 3] = [
     },
 ];
 
-/// What is measured: it makes as many calls as it is told, on the memory lent.
-type Run<'a> = Box<dyn FnMut(&mut Memory, u32) + 'a>;
+/// The largest disk once more, to copy to.
+static SECOND: Disk = Disk {
+    name: "second",
+    drive: 1,
+    config: [4, 0, 7, 0, 2, 0, 0, 0, 0, 11],
+    length: 63_365_136,
+    sectors: 121_856,
+    size: 512,
+    tracks: 7_168,
+    rows: &ROWS,
+};
 
-fn seconds(run: &mut Run, memory: &mut Memory, calls: u32) -> f64 {
+/// Two disks, and how many sectors of the first are copied to the second.
+struct Copying {
+    name: &'static str,
+    from: &'static Disk,
+    to: &'static Disk,
+    count: u32,
+}
+
+static COPIES: [Copying; 2] = [
+    Copying { name: "largest to largest", from: &DISKS[1], to: &SECOND, count: 256 },
+    Copying { name: "largest to floppy", from: &DISKS[1], to: &DISKS[2], count: 256 },
+];
+
+/// What is measured: it makes as many calls as it is told, on the memory lent.
+type Run<'a, M> = Box<dyn FnMut(&mut M, u32) + 'a>;
+
+fn seconds<M>(run: &mut Run<M>, memory: &mut M, calls: u32) -> f64 {
     let start = Instant::now();
     run(memory, calls);
     start.elapsed().as_secs_f64()
@@ -80,7 +106,7 @@ fn seconds(run: &mut Run, memory: &mut Memory, calls: u32) -> f64 {
 /// Nanoseconds a call of each run: the fastest of some rounds. The runs take turns on the same
 /// memory, so that a machine that slows down, or a place in memory that is slow, slows them all;
 /// every other round goes backward, so that none profits from what another has left in the cache.
-fn nanoseconds(mut runs: Vec<Run>, memory: &mut Memory) -> Vec<f64> {
+fn nanoseconds<M>(mut runs: Vec<Run<M>>, memory: &mut M) -> Vec<f64> {
     let mut calls = vec![1u32; runs.len()];
     for (run, calls) in runs.iter_mut().zip(&mut calls) {
         while seconds(run, memory, *calls) < ROUND_SECONDS {
@@ -168,7 +194,7 @@ fn begin(engine: &mut impl Engine, disk: &Disk, memory: &mut Memory) {
     execute(engine, disk, memory, &disk.block(0x04, 0, 5));
 }
 
-fn commands<'a>(engine: &'a mut impl Engine, disk: &'a Disk, row: Row) -> Run<'a> {
+fn commands<'a>(engine: &'a mut impl Engine, disk: &'a Disk, row: Row) -> Run<'a, Memory> {
     Box::new(move |memory, calls| {
         for _ in 0..calls {
             let command = memory.command(disk, row);
@@ -179,8 +205,8 @@ fn commands<'a>(engine: &'a mut impl Engine, disk: &'a Disk, row: Row) -> Run<'a
 
 /// A copy of as many bytes as a command moves: a transfer's from or to the image, a format's slot by
 /// slot, each from an ID and a sector.
-fn copy(disk: &Disk, row: Row) -> Option<Run<'_>> {
-    let run: Run = match row {
+fn copy(disk: &Disk, row: Row) -> Option<Run<'_, Memory>> {
+    let run: Run<Memory> = match row {
         Row::ReadOne | Row::ReadMany => {
             let (count, bytes) = disk.moved(row);
             Box::new(move |memory, calls| {
@@ -217,7 +243,7 @@ fn copy(disk: &Disk, row: Row) -> Option<Run<'_>> {
 }
 
 /// A fill of as many bytes as a format writes.
-fn fill(disk: &Disk, row: Row) -> Option<Run<'_>> {
+fn fill(disk: &Disk, row: Row) -> Option<Run<'_, Memory>> {
     match row {
         Row::FormatTrack | Row::FormatDrive => Some(Box::new(move |memory, calls| {
             for _ in 0..calls {
@@ -226,6 +252,123 @@ fn fill(disk: &Disk, row: Row) -> Option<Run<'_>> {
             }
         })),
         _ => None,
+    }
+}
+
+/// What a copy is lent.
+struct Memories {
+    from: Memory,
+    to: Memory,
+}
+
+impl Memories {
+    fn new(copying: &Copying) -> Memories {
+        Memories { from: Memory::new(copying.from), to: Memory::new(copying.to) }
+    }
+
+    /// Where to copy from and to.
+    fn addresses(&mut self, copying: &Copying) -> [u32; 2] {
+        [
+            self.from.address(copying.from, copying.count),
+            self.to.address(copying.to, copying.written()),
+        ]
+    }
+}
+
+impl Copying {
+    /// The sectors written.
+    fn written(&self) -> u32 {
+        self.count * self.from.size as u32 / self.to.size as u32
+    }
+
+    fn bytes(&self) -> usize {
+        self.count as usize * self.from.size
+    }
+
+    fn title(&self) -> String {
+        format!("Copy {}", self.count)
+    }
+
+    fn execute_copy(&self, engine: &mut impl Engine, memories: &mut Memories) {
+        let [from, to] = memories.addresses(self);
+        let source = self.from.block(0x20, from, self.count as u8);
+        let destination = self.to.block(0, to, 0);
+        let block = [&source[..5], &destination[1..4], &[0, 0]].concat();
+        let mut images: [&mut [u8]; 4] = Default::default();
+        images[self.from.drive] = &mut memories.from.image;
+        images[self.to.drive] = &mut memories.to.image;
+        let answer = engine.execute(&block, &[], &mut [], images);
+        let done = (answer.number, answer.status, u32::from(answer.sectors));
+        assert_eq!(done, (0, self.from.drive_bits(), self.written()), "{block:02X?}");
+        black_box(answer);
+    }
+
+    /// The same sectors by Read, and by as many Writes as they need.
+    fn execute_transfers(&self, engine: &mut impl Engine, memories: &mut Memories) {
+        let [from, to] = memories.addresses(self);
+        let Memories { from: source, to: destination } = memories;
+        execute(engine, self.from, source, &self.from.block(0x08, from, self.count as u8));
+        let most = 256 * self.to.size;
+        for (k, bytes) in (0..).zip(source.area[..self.bytes()].chunks(most)) {
+            let count = bytes.len() / self.to.size;
+            let block = self.to.block(0x0A, to + 256 * k, count as u8);
+            let mut images: [&mut [u8]; 4] = Default::default();
+            images[self.to.drive] = &mut destination.image;
+            let answer = engine.execute(&block, bytes, &mut [], images);
+            assert_eq!((answer.number, answer.status), (0, self.to.drive_bits()), "{block:02X?}");
+            black_box(answer);
+        }
+    }
+
+    /// The bytes read and the bytes written, flat.
+    fn copy_bytes(&self, memories: &mut Memories) {
+        let [from, to] = memories.addresses(self).map(|address| address as usize);
+        let Memories { from: source, to: destination } = memories;
+        let (from, to, bytes) = (from * self.from.size, to * self.to.size, self.bytes());
+        let area = &mut black_box(&mut source.area)[..bytes];
+        area.copy_from_slice(&black_box(&mut source.spare)[from..from + bytes]);
+        black_box(&mut destination.spare)[to..to + bytes].copy_from_slice(area);
+    }
+
+    /// Both disks in use, as both engines left them.
+    fn in_use(&self, memories: &mut Memories) -> (plain::Controller, Proved) {
+        let mut plain = plain::Controller::fresh([&[]; 4]);
+        let mut proved = Proved::from_record(&plain);
+        for (disk, memory) in [(self.from, &mut memories.from), (self.to, &mut memories.to)] {
+            begin(&mut plain, disk, memory);
+            begin(&mut proved, disk, memory);
+        }
+        (plain, proved)
+    }
+
+    fn measure(&self, proved: &mut impl Engine, plain: &mut impl Engine, memories: &mut Memories) {
+        let copies = vec![self.copies(proved), self.copies(plain)];
+        let engines = nanoseconds(copies, memories);
+        let (ours, theirs) = (engines[0], engines[1]);
+        let transfers = nanoseconds(vec![self.transfers(proved)], memories)[0];
+        let flat = nanoseconds(vec![self.flat()], memories)[0];
+        println!(
+            "| {} | {} | {ours:.0} | {theirs:.0} | {flat:.0} | {transfers:.0} | {:.2} | {:.2} | {:.2} |",
+            self.name,
+            self.title(),
+            ours / theirs,
+            ours / flat,
+            ours / transfers
+        );
+    }
+
+    fn copies<'a>(&'a self, engine: &'a mut impl Engine) -> Run<'a, Memories> {
+        Box::new(|memories, calls| (0..calls).for_each(|_| self.execute_copy(engine, memories)))
+    }
+
+    fn transfers<'a>(&'a self, engine: &'a mut impl Engine) -> Run<'a, Memories> {
+        Box::new(|memories, calls| {
+            (0..calls).for_each(|_| self.execute_transfers(engine, memories))
+        })
+    }
+
+    fn flat(&self) -> Run<'_, Memories> {
+        Box::new(|memories, calls| (0..calls).for_each(|_| self.copy_bytes(memories)))
     }
 }
 
@@ -332,6 +475,19 @@ fn in_use(disk: &Disk, memory: &mut Memory) -> (plain::Controller, Proved) {
     (plain, proved)
 }
 
+/// Copies from disk to disk.
+fn copy_table() {
+    println!(
+        "| disks | command | proved ns | plain ns | copy ns | Read, Write ns | / plain | / copy | / Read, Write |"
+    );
+    println!("|---|---|---|---|---|---|---|---|---|");
+    for copying in &COPIES {
+        let mut memories = Memories::new(copying);
+        let (mut plain, mut proved) = copying.in_use(&mut memories);
+        copying.measure(&mut proved, &mut plain, &mut memories);
+    }
+}
+
 fn table() {
     println!(
         "| disk | command | proved ns | plain ns | copy ns | fill ns | / plain | / copy | / fill |"
@@ -353,6 +509,9 @@ fn rows() {
             println!("{}\t{}", disk.name, title(row, disk));
         }
     }
+    for copying in &COPIES {
+        println!("{}\t{}", copying.name, copying.title());
+    }
 }
 
 /// The block of a transfer of so many sectors, or of a format of so many tracks up to the last: to see how cost grows.
@@ -370,6 +529,12 @@ fn grown(disk: &Disk, memory: &mut Memory, wanted: &str) -> [u8; 6] {
 }
 
 fn count(name: &str, wanted: &str, calls: u32) {
+    if let Some(copying) = COPIES.iter().find(|copying| copying.name == name) {
+        let mut memories = Memories::new(copying);
+        let (_, mut proved) = copying.in_use(&mut memories);
+        copying.copies(&mut proved)(&mut memories, calls);
+        return;
+    }
     let disk = DISKS.iter().find(|disk| disk.name == name).expect("a disk of `bench rows`");
     let mut memory = Memory::new(disk);
     let (_, mut proved) = in_use(disk, &mut memory);
@@ -386,7 +551,11 @@ fn count(name: &str, wanted: &str, calls: u32) {
 fn main() {
     let words: Vec<String> = std::env::args().skip(1).collect();
     match words.iter().map(String::as_str).collect::<Vec<_>>()[..] {
-        [] => table(),
+        [] => {
+            table();
+            println!();
+            copy_table();
+        }
         ["rows"] => rows(),
         ["count", disk, row, calls] => count(disk, row, calls.parse().expect("a number of calls")),
         _ => panic!("bench [rows | count DISK ROW CALLS]"),

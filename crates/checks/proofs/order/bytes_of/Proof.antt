@@ -32,7 +32,7 @@ size-in-requires c κs = search needs
 mul-result : tie.Need-mul-result
 mul-result c =
     let a = c .before .before .before .before in
-    rw (c .before .count-of .ensures, c .size-in .ensures) (let m = bytes-most (a .args .b) (a .args .setting) (search needs) (a .pre) in omega arith)
+    rw (c .before .count-of .ensures .0, c .size-in .ensures) (let m = bytes-most (a .args .b) (a .args .setting) (search needs) (a .pre) in omega arith)
 
 returns : tie.Need-returns
 unfolding bytesOf
@@ -56,7 +56,7 @@ returns-5 c = simp (c .enum-told5 .given .1)
 
 returns-6 : tie.Need-returns-6
 unfolding bytesOf
-returns-6 c = simp (c .before .before .enum-told6 .given .1, c .before .count-of .ensures, c .size-in .ensures)
+returns-6 c = simp (c .before .before .enum-told6 .given .1, c .before .count-of .ensures .0, c .size-in .ensures)
 
 pub bytes-of-spec : {M : Type 1} → statement M
 bytes-of-spec =

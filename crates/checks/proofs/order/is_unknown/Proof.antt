@@ -1,5 +1,5 @@
-use borrow.Author.Needs.{needs}
 use Rattle.model.specs.Checks.{isUnknown}
+use borrow.Author.Needs.{needs}
 use Rattle.checks.proofs.order.is_unknown.Statement.{statement}
 use Rattle.checks.proofs.order.is_unknown.Tie as tie
 
@@ -11,6 +11,9 @@ enum-told-2 c = search needs
 
 enum-told-3 : tie.Need-enum-told-3
 enum-told-3 c = search needs
+
+enum-told-4 : tie.Need-enum-told-4
+enum-told-4 c = search needs
 
 returns : tie.Need-returns
 unfolding isUnknown
@@ -24,6 +27,11 @@ returns-3 : tie.Need-returns-3
 unfolding isUnknown
 returns-3 c = simp (c .enum-told3 .given .1)
 
+returns-4 : tie.Need-returns-4
+unfolding isUnknown
+returns-4 c = simp (c .enum-told4 .given .1)
+
 pub is-unknown-spec : {M : Type 1} → statement M
 is-unknown-spec =
-    tie.close (tie.spec enum-told enum-told-2 enum-told-3 returns returns-2 returns-3)
+    tie.close
+    (tie.spec enum-told enum-told-2 enum-told-3 enum-told-4 returns returns-2 returns-3 returns-4)

@@ -13,7 +13,7 @@ returns : tie.Need-returns
 unfolding reachOf
 returns c =
     let b = count-bounds (c .before .before .args .b) (search needs) in
-    let e = c .count-of .ensures in
+    let e = c .count-of .ensures .0 in
     (search (needs, decide), omega arith, omega arith)
 
 returns-2 : tie.Need-returns-2

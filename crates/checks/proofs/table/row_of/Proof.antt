@@ -1,6 +1,6 @@
 use borrow.Author.Needs.{needs}
 use Rattle.checks.specs.Rows.{bitOf}
-use Rattle.checks.proofs.Rows.{rows, rowFrom, bitsOf, rows-read, rows-past}
+use Rattle.checks.proofs.Rows.{rows, rowFrom, bitsOf, rows-read, row-copy, rows-past}
 use Rattle.checks.proofs.table.row_of.Statement.{statement}
 use Rattle.checks.proofs.table.row_of.Tie as tie
 
@@ -15,8 +15,12 @@ unfolding rows rowFrom bitsOf bitOf
 returns c = rows-read _ _ (c .before .if1 .taken)
 
 returns-2 : tie.Need-returns-2
+unfolding rowFrom bitsOf bitOf
+returns-2 c = row-copy _ (c .if2 .taken)
+
+returns-3 : tie.Need-returns-3
 unfolding rowFrom bitsOf
-returns-2 c = rows-past _ (c .if1 .left)
+returns-3 c = rows-past _ (c .before .if1 .left) (c .if2 .left)
 
 pub row-of-spec : {M : Type 1} → statement M
-row-of-spec = tie.close (tie.spec mul-result array-copy-out-result returns returns-2)
+row-of-spec = tie.close (tie.spec mul-result array-copy-out-result returns returns-2 returns-3)

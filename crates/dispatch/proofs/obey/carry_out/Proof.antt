@@ -1,6 +1,6 @@
 use mathlib.Core.Path.{_∙_}
 use Rattle.dispatch.proofs.Admits.{free-admits}
-use Rattle.dispatch.proofs.Carries.{free-carries, disk-carries, unknown-carries}
+use Rattle.dispatch.proofs.Carries.{free-carries, disk-carries, unknown-carries, copy-carries}
 use borrow.Author.Needs.{needs}
 use Rattle.dispatch.proofs.obey.carry_out.Statement.{statement}
 use Rattle.dispatch.proofs.obey.carry_out.Tie as tie
@@ -26,6 +26,12 @@ enum-told c = search needs
 
 failed-requires : tie.Need-failed-requires
 failed-requires c κs = search needs
+
+enum-told-2 : tie.Need-enum-told-2
+enum-told-2 c = search needs
+
+failed-requires-2 : tie.Need-failed-requires-2
+failed-requires-2 c κs = search needs
 
 same-length : tie.Need-same-length
 same-length c = search needs
@@ -54,6 +60,9 @@ returns-2 c = disk-carries _ _ _ _ _ _ _ _ _ _ (c .before .before .before .befor
 returns-3 : tie.Need-returns-3
 returns-3 c = unknown-carries _ _ _ _ _ _ _ _ _ (c .before .enum-told .given .1) (c .failed .ensures)
 
+returns-4 : tie.Need-returns-4
+returns-4 c = copy-carries _ _ _ _ _ _ _ _ _ (c .before .enum-told2 .given .1) (c .failed2 .ensures)
+
 pub carry-out-spec : {M : Type 1} → statement M
 carry-out-spec =
     tie.close
@@ -64,6 +73,8 @@ carry-out-spec =
     with-setting-requires
     enum-told
     failed-requires
+    enum-told-2
+    failed-requires-2
     same-length
     same-length-2
     same-length-3
@@ -72,4 +83,5 @@ carry-out-spec =
     same-length-5
     same-length-6
     returns-2
-    returns-3)
+    returns-3
+    returns-4)

@@ -1,5 +1,6 @@
 use mathlib.Core.Path.{sym}
-use Rattle.dispatch.proofs.Obeys.{view-legal, fault-below, admitted, setting-is, obey-refused, obey-failed, obey-carried}
+use Rattle.checks.proofs.Views.{view-legal}
+use Rattle.dispatch.proofs.Obeys.{fault-below, admitted, setting-is, obey-refused, obey-failed, obey-carried}
 use borrow.Author.Needs.{needs}
 use Rattle.dispatch.proofs.obey.obey.Statement.{statement}
 use Rattle.dispatch.proofs.obey.obey.Tie as tie

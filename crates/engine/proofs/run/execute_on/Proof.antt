@@ -1,31 +1,27 @@
-use native.Mathlib.Omega.{arith}
-use Rattle.model.specs.Premises.{WellFormed}
-use Rattle.engine.proofs.Executes.{block-formed, execute-refused, execute-six}
+use Rattle.base.proofs.Bools.{test-on}
+use Rattle.model.specs.Block.{blockOf}
+use Rattle.engine.proofs.Executes.{whole-two, execute-refused}
 use borrow.Author.Needs.{needs}
 use Rattle.engine.proofs.run.execute_on.Statement.{statement}
 use Rattle.engine.proofs.run.execute_on.Tie as tie
+
+is-whole-requires : tie.Need-is-whole-requires
+is-whole-requires c κs = search needs
 
 bare-answer-requires : tie.Need-bare-answer-requires
 bare-answer-requires c κs = search needs
 
 returns : tie.Need-returns
-returns c = execute-refused _ _ _ _ _ _ (c .before .if1 .taken) (c .bare-answer .ensures)
+returns c = execute-refused _ _ _ _ _ (c .before .before .is-whole .ensures) _ (c .before .if1 .taken) (c .bare-answer .ensures)
 
-decode-requires : tie.Need-decode-requires
-decode-requires c κs = search needs
+run-block-requires : tie.Need-run-block-requires
+run-block-requires c κs = (test-on _ _ (c .before .before .before .before .before .before .before .is-whole .ensures) (c .before .before .before .before .before .before .if1 .left), search needs)
 
--- the block names one of four drives
-formed : (c : tie.After-decode) → WellFormed (c .decode .result)
-formed c = block-formed _ _ (c .decode .ensures) (λ i. omega (arith, c .before .before .before .before .before .before .before .before .shared-slice-known .given i))
-
-drive-at-requires : tie.Need-drive-at-requires
-drive-at-requires c κs = omega (arith, formed c .drive)
-
-on-images-requires : tie.Need-on-images-requires
-on-images-requires c κs = (formed (c .before .before .before .before .before .before .before), search needs)
+shared-slice-read-drive : tie.Need-shared-slice-read-drive
+shared-slice-read-drive c = whole-two _ (test-on _ _ (c .before .before .before .before .before .before .before .before .before .before .before .before .before .before .before .before .before .before .before .is-whole .ensures) (c .before .before .before .before .before .before .before .before .before .before .before .before .before .before .before .before .before .before .if1 .left))
 
 with-drive-requires : tie.Need-with-drive-requires
-with-drive-requires c κs = omega (arith, formed (c .before .before .before .before .before .before .before .before .before .before .before .before .before .before .before .before .before .before .before .before) .drive)
+with-drive-requires c κs = search needs
 
 same-length : tie.Need-same-length
 same-length c = search needs
@@ -43,20 +39,18 @@ same-length-5 : tie.Need-same-length-5
 same-length-5 c = search needs
 
 returns-2 : tie.Need-returns-2
-returns-2 c =
-    let o = c .before .before .before .before .before .before .before .before .before .before .before .before .before in
-    let d = o .before .before .before .before .before .before .before .before in
-    execute-six _ _ _ _ _ (d .before .if1 .left) _ (d .decode .ensures) _ (o .before .before .before .before .before .before .before .drive-at .ensures) _ (o .on-images .ensures) _ (c .with-drive .ensures)
+unfolding blockOf
+returns-2 c = rw (c .with-drive .ensures) (c .before .before .before .before .before .before .before .before .before .before .before .before .before .before .run-block .ensures)
 
 pub execute-on-spec : {M : Type 1} → statement M
 execute-on-spec =
     tie.close
     (tie.spec
+    is-whole-requires
     bare-answer-requires
     returns
-    decode-requires
-    drive-at-requires
-    on-images-requires
+    run-block-requires
+    shared-slice-read-drive
     with-drive-requires
     same-length
     same-length-2

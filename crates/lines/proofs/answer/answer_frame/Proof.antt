@@ -3,6 +3,9 @@ use Rattle.lines.proofs.Answers.{frame-answered}
 use Rattle.lines.proofs.answer.answer_frame.Statement.{statement}
 use Rattle.lines.proofs.answer.answer_frame.Tie as tie
 
+block-length-requires : tie.Need-block-length-requires
+block-length-requires c κs = search needs
+
 least-requires : tie.Need-least-requires
 least-requires c κs = search needs
 
@@ -45,7 +48,7 @@ part-tell-end c = search needs
 tell-requires : tie.Need-tell-requires
 tell-requires c κs =
     let done = c .before .before .before .before .before .before .before .before .before .before .before .before .before .before .before .before .before in
-    let start = done .before .before .before .before .before .before .before .before .before .before .before .before .before .before .before .before in
+    let start = done .before .before .before .before .before .before .before .before .before .before .before .before .before .before .before .before .before in
     search (needs, done .execute .kept, start .pre)
 
 same-length : tie.Need-same-length
@@ -71,15 +74,16 @@ returns c =
     let handed = c .before .before .before .before .before .before in
     let done = handed .before .before .before .before .before .before .before .before .before .before .before .before .before .before in
     let parted = done .before .before .before .before .before .before .before .before in
-    let start = parted .before .before .before .before .before .before .before .before in
-    frame-answered _ (start .args .frame .now) (start .args .area .now) (done .execute .last .1 .1 .1 .0) _ _ _ _ _ _ _ _
-    (start .pre) (done .execute .kept .1 .1 .1 .0) (parted .least .ensures) (handed .least2 .ensures)
+    let start = parted .before .before .before .before .before .before .before .before .before in
+    frame-answered _ (start .args .frame .now) (start .args .area .now) (done .execute .last .1 .1 .1 .0) _ _ _ _ _ _ _ _ _
+    (start .pre) (done .execute .kept .1 .1 .1 .0) (parted .before .block-length .ensures) (parted .least .ensures) (handed .least2 .ensures)
     (done .execute .ensures) (c .before .before .tell .ensures)
 
 pub answer-frame-spec : {M : Type 1} → statement M
 answer-frame-spec =
     tie.close
     (tie.spec
+    block-length-requires
     least-requires
     sub-execute
     part-execute-start

@@ -1,28 +1,16 @@
 use Rattle.track.proofs.Laws.{track-lent, where-in}
 use Rattle.sectors.proofs.Founds.{track-below}
-use Rattle.sectors.proofs.Ones.{one-long}
 use Rattle.sectors.proofs.ReadLoops.{part-off, part-on}
 use borrow.Author.Needs.{needs}
 use Rattle.sectors.proofs.read.read_part.Statement.{statement}
 use Rattle.sectors.proofs.read.read_part.Tie as tie
-
-read-one-requires : tie.Need-read-one-requires
-read-one-requires c κs =
-    let a = c .before .before .before .before in
-    (a .pre .0, a .pre .1, one-long _ _ _ (c .before .if1 .taken) (a .pre .4))
-
-same-length : tie.Need-same-length
-same-length c = search needs
-
-returns : tie.Need-returns
-returns c = rw (c .before .before .before .before .if1 .taken) (c .before .before .read-one .ensures)
 
 track-of-requires : tie.Need-track-of-requires
 track-of-requires c κs = search needs
 
 where-is-requires : tie.Need-where-is-requires
 where-is-requires c κs =
-    let a = c .before .before .before .before in
+    let a = c .before .before .before in
     (a .pre .0, track-below _ (a .args .a) _ (a .pre .0 .within) (a .pre .1) (c .track-of .ensures))
 
 enum-known-place : tie.Need-enum-known-place
@@ -35,7 +23,7 @@ enum-known-place-2 c = search needs
 stretch-requires : tie.Need-stretch-requires
 stretch-requires c κs =
     let w = c .before .before .before in
-    let a = w .before .before .before .before .before in
+    let a = w .before .before .before .before in
     let h = track-below _ (a .args .a) _ (a .pre .0 .within) (a .pre .1) (w .before .track-of .ensures) in
     (a .pre .0 .within, where-in _ _ _ _ (w .where-is .ensures) h _ (c .before .place2 .given .1))
 
@@ -60,20 +48,20 @@ read-run-requires c κs = search needs
 done-of-requires : tie.Need-done-of-requires
 done-of-requires c κs = search needs
 
-returns-2 : tie.Need-returns-2
-returns-2 c =
+returns : tie.Need-returns
+returns c =
     let w = c .before .before .before in
-    let a = w .before .before .before .before .before in
+    let a = w .before .before .before .before in
     part-off _ _ (a .args .a) _ _ _ (a .pre .3) (w .before .track-of .ensures) (w .where-is .ensures) _ _ (a .pre .2) (c .before .place .given .1)
 
-same-length-2 : tie.Need-same-length-2
-same-length-2 c = search needs
+same-length : tie.Need-same-length
+same-length c = search needs
 
-returns-3 : tie.Need-returns-3
-returns-3 c =
+returns-2 : tie.Need-returns-2
+returns-2 c =
     let s = c .before .before .before .before .before .before in
     let w = s .before .before .before .before .before in
-    let a = w .before .before .before .before .before in
+    let a = w .before .before .before .before in
     part-on _ _ (a .args .a) _ _ _ (a .pre .3) (w .before .track-of .ensures) (w .where-is .ensures) _ _ _ _ _ _ _
     (s .before .before .before .place2 .given .1) (s .sector-of .ensures)
     (track-lent _ _ _ _ _ (s .before .stretch .ensures .0) (s .before .stretch .ensures .1))
@@ -83,9 +71,6 @@ pub read-part-spec : {M : Type 1} → statement M
 read-part-spec =
     tie.close
     (tie.spec
-    read-one-requires
-    same-length
-    returns
     track-of-requires
     where-is-requires
     enum-known-place
@@ -98,6 +83,6 @@ read-part-spec =
     part-read-run-end
     read-run-requires
     done-of-requires
-    returns-2
-    same-length-2
-    returns-3)
+    returns
+    same-length
+    returns-2)

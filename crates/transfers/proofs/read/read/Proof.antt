@@ -16,14 +16,14 @@ count-of-requires c κs = search needs
 read-sectors-requires : tie.Need-read-sectors-requires
 read-sectors-requires c κs =
     let a = c .before .before .before .before .before in
-    (a .pre .0 .fits, omega (arith, a .pre .0 .inside, c .before .count-of .ensures), room-all _ _ _ _ (c .before .count-of .ensures) (a .pre .0 .enough))
+    (a .pre .0 .fits, omega (arith, a .pre .0 .inside, c .before .count-of .ensures .0), room-all _ _ _ _ (c .before .count-of .ensures .0) (a .pre .0 .enough))
 
 -- the sectors done are no more than were asked for, and those are at most 256
 most : (c : tie.After-slice-known3) → c .before .before .read-sectors .result .sectors ≤ c .before .before .before .before .count-of .result
 most c =
     let k = c .before .before .before .before in
     let a = k .before .before .before .before in
-    read-most (a .args .b) (a .args .p) _ _ _ _ _ (a .pre .0 .fits) (a .pre .0 .inside) (k .count-of .ensures) (c .before .before .read-sectors .ensures)
+    read-most (a .args .b) (a .args .p) _ _ _ _ _ (a .pre .0 .fits) (a .pre .0 .inside) (k .count-of .ensures .0) (c .before .before .read-sectors .ensures)
 
 extra : (a : tie.Start) → a .args .b .extra < 256
 extra a = omega arith
@@ -32,7 +32,7 @@ few : (c : tie.After-slice-known3) → c .before .before .read-sectors .result .
 few c =
     let k = c .before .before .before .before in
     let a = k .before .before .before .before in
-    le-trans (most c) (count-most (a .args .b) _ (extra a) (k .count-of .ensures))
+    le-trans (most c) (count-most (a .args .b) _ (extra a) (k .count-of .ensures .0))
 
 bytes : (c : tie.After-slice-known3)
     → c .before .before .read-sectors .result .sectors * c .before .before .before .before .before .before .before .before .args .p .size ≤ 131072
@@ -47,8 +47,7 @@ keep-last-requires c κs =
     let a = k .before .before .before .before .before .before .before .before in
     let long : length (k .before .before .read-sectors .last .1 .1 .1 .1 .0) ≡ length (a .args .area .now) = search needs in (
       omega (arith, a .pre .0 .fits .within .size-most, a .pre .1),
-      room-done _ _ _ _ _ (most k) (k .before .before .before .before .count-of .ensures) (rw long (a .pre .0 .enough)),
-      few k,
+      room-done _ _ _ _ _ (most k) (k .before .before .before .before .count-of .ensures .0) (rw long (a .pre .0 .enough)),
     )
 
 cast-finish : tie.Need-cast-finish
@@ -61,7 +60,7 @@ finish-requires c κs =
       a .pre .0 .block .drive,
       few k,
       read-code (a .args .b) (a .args .p) _ _ _ _ _ (a .pre .0 .fits) (a .pre .0 .inside)
-          (k .before .before .before .before .count-of .ensures) (k .before .before .read-sectors .ensures),
+          (k .before .before .before .before .count-of .ensures .0) (k .before .before .read-sectors .ensures),
       omega (arith, a .pre .0 .inside, sectors-most (a .args .p) (a .pre .0 .fits .within)),
     )
 
@@ -76,7 +75,7 @@ returns c =
     let k = c .before .before .before .before .before .before in
     let a = k .before .before .before .before .before .before .before .before in
     read-leaves (a .args .b) (a .args .p) _ _ _ _ _ (a .pre .0 .fits) (a .pre .0 .inside)
-    (k .before .before .before .before .count-of .ensures) (k .before .before .read-sectors .ensures)
+    (k .before .before .before .before .count-of .ensures .0) (k .before .before .read-sectors .ensures)
     _ _ _ _ (c .before .before .before .keep-last .ensures) (c .finish .ensures)
 
 pub read-spec : {M : Type 1} → statement M

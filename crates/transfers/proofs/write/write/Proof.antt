@@ -15,7 +15,7 @@ count-of-requires c κs = search needs
 write-sectors-requires : tie.Need-write-sectors-requires
 write-sectors-requires c κs =
     let a = c .before .before .before .before .before in
-    (a .pre .0 .fits, omega (arith, a .pre .0 .inside, c .count-of .ensures), room-all _ _ _ _ (c .count-of .ensures) (a .pre .0 .enough))
+    (a .pre .0 .fits, omega (arith, a .pre .0 .inside, c .count-of .ensures .0), room-all _ _ _ _ (c .count-of .ensures .0) (a .pre .0 .enough))
 
 -- the sectors done are no more than were asked for, and those are at most 256
 most : (c : tie.After-slice-known3) → c .before .before .write-sectors .result .sectors ≤ c .before .before .before .count-of .result
@@ -27,15 +27,14 @@ extra a = omega arith
 few : (c : tie.After-slice-known3) → c .before .before .write-sectors .result .sectors ≤ 256
 few c =
     let a = c .before .before .before .before .before .before .before .before in
-    le-trans (most c) (count-most (a .args .b) _ (extra a) (c .before .before .before .count-of .ensures))
+    le-trans (most c) (count-most (a .args .b) _ (extra a) (c .before .before .before .count-of .ensures .0))
 
 keep-last-requires : tie.Need-keep-last-requires
 keep-last-requires c κs =
     let k = c .before .before .before .before in
     let a = k .before .before .before .before .before in (
       omega (arith, a .pre .0 .fits .within .size-most, a .pre .1),
-      room-done _ _ _ _ _ (most (c .before)) (k .count-of .ensures) (a .pre .0 .enough),
-      few (c .before),
+      room-done _ _ _ _ _ (most (c .before)) (k .count-of .ensures .0) (a .pre .0 .enough),
     )
 
 finish-requires : tie.Need-finish-requires
@@ -60,7 +59,7 @@ returns c =
     let w = l .before .before .before .before in
     let a = w .before .before .before .before .before .before in
     write-leaves (a .args .b) (a .args .p) (a .args .entry) _ _ _ _ _ _ _ _
-    (w .before .count-of .ensures) (w .write-sectors .ensures) (l .keep-last .ensures) (c .finish .ensures)
+    (w .before .count-of .ensures .0) (w .write-sectors .ensures) (l .keep-last .ensures) (c .finish .ensures)
 
 pub write-spec : {M : Type 1} → statement M
 write-spec =

@@ -1,10 +1,10 @@
 use Prim.Native.Nat.{_+_, _-_, _*_, _≤_}
 use native.Mathlib.Omega.{arith}
 use lib.ListN.{length}
-use Rattle.transfers.proofs.Lasts.{last-none, last-room, last-lent}
+use Rattle.sectors.proofs.Lasts.{last-none, last-room, last-lent}
 use borrow.Author.Needs.{needs}
-use Rattle.transfers.proofs.transfer.keep_last.Statement.{statement}
-use Rattle.transfers.proofs.transfer.keep_last.Tie as tie
+use Rattle.sectors.proofs.transfer.keep_last.Statement.{statement}
+use Rattle.sectors.proofs.transfer.keep_last.Tie as tie
 
 returns : tie.Need-returns
 returns c = last-none _ _ _ _ (c .if1 .taken)

@@ -6,7 +6,7 @@ use native.Mathlib.Omega.{arith}
 use lib.ListN.{length, take, drop}
 use Rattle.base.specs.Part.{part, splice}
 use Rattle.base.proofs.Parts.{cell-in, part-lent, part-left}
-use Rattle.transfers.specs.Last.{lastOf}
+use Rattle.sectors.specs.Last.{lastOf}
 
 pub last-none : (n size : ℕ) (moved buffer : List ℕ) → n ≡ 0 → buffer ≡ splice 0 (lastOf n size moved) buffer
 unfolding splice lastOf

@@ -1,0 +1,4 @@
+pub mod Images
+pub mod Copying
+pub mod Listwise
+pub mod Promises

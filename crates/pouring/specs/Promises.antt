@@ -1,0 +1,103 @@
+-- What the parts of a copy promise each other.
+use Prim.Native.Nat.{ℕ, _+_, _*_, _≤_, _<_}
+use mathlib.Core.Path.{_≡_}
+use mathlib.Core.List.{List}
+use lib.ListN.{length, take, set}
+use lib.Dec.{eqb}
+use Rattle.base.specs.Pick.{pick}
+use Rattle.base.specs.Part.{splice}
+use Rattle.geometry.specs.Params.{further}
+use Rattle.sectors.specs.declared.transfer.Done.{Done}
+use Rattle.sectors.specs.Last.{lastOf}
+use Rattle.sectors.specs.Transfer.{Transfer, begun, writing}
+use Rattle.copying.specs.declared.route.Route.{Route}
+use Rattle.copying.specs.declared.route.Copied.{Copied}
+use Rattle.copying.specs.declared.route.End.the-variants.{Going, SourceFault, TargetFault, Short}
+use Rattle.copying.specs.Images.{imageOf}
+use Rattle.copying.specs.Copying.{Copying, copying, completed}
+use Rattle.copying.specs.Listwise.{filledBy, Fitting}
+use Rattle.copying.specs.Promises.{CopiedBy}
+use Rattle.pouring.specs.declared.turn.Progress.{Progress}
+
+-- ---- sectors of one of the images
+-- How far it came and why it ended, and the images, of which one is changed: as the transfer x says.
+pub record WrittenOn (drive : ℕ) (x : Transfer) (done : Done) (before after : List (List ℕ)) : Type 0 where
+  pub sectors : done .sectors ≡ x .done
+  pub code : done .code ≡ x .code
+  pub images : after ≡ set before drive (x .image)
+
+-- n destination sectors behind `done`: written, and the last at the buffer's front
+pub record StoredBy (r : Route) (done n : ℕ) (given buffer : List ℕ) (images : List (List ℕ)) (d : Done) (after : List ℕ) (left : List (List ℕ)) : Type 0 where
+  pub written : WrittenOn (r .target) (writing (r .q) n (further (r .b) done) given (begun (imageOf (r .target) images))) d images left
+  pub front : after ≡ splice 0 (lastOf (d .sectors) (r .q .size) given) buffer
+
+-- ---- a turn
+-- the Copy that stands here, where the last sector written was `last`
+abbrev pub standing : (s : Progress) → (scratch : List ℕ) → (images : List (List ℕ)) → (last : List ℕ) → Copying
+standing s scratch images last =
+    record { read = s .read; done = s .done; rest = take (s .held) scratch; last = last; images = images; end = s .end }
+
+-- A copy of n source sectors can go on from here: every byte read is written or waits, and less than a sector waits. The scratch has room for
+-- those bytes and 17 sectors of 512 bytes.
+pub record Underway (r : Route) (n : ℕ) (s : Progress) (scratch buffer : List ℕ) (images : List (List ℕ)) : Type 0 where
+  pub source-there : r .source < 4
+  pub target-there : r .target < 4
+  pub few : n ≤ 256
+  pub fitting : Fitting r n images
+  pub most : s .end ≡ Going → s .read ≤ n
+  pub even : s .end ≡ Going → s .read * r .p .size ≡ s .done * r .q .size + s .held
+  pub short : s .held < r .q .size
+  pub none : (s .end ≡ Going → ⊥) → s .held ≡ 0
+  pub scratch-long : length scratch ≡ 9216
+  pub buffer-long : length buffer ≡ 512
+
+-- how far a turn came, by its Read and its Write, with `held` bytes left
+unfoldable pub afterTurn : Route → Progress → (source target : Done) → (held : ℕ) → Progress
+afterTurn r s source target held =
+    pick (eqb (target .code) 0)
+    (pick (eqb (source .code) 0)
+    (record { read = s .read + source .sectors; done = s .done + target .sectors; held = held; end = Going })
+    (record { read = s .read + source .sectors; done = s .done + target .sectors; held = 0; end = SourceFault (source .code) }))
+    (record {
+      read = filledBy (s .done + target .sectors + 1) (r .q .size) (r .p .size);
+      done = s .done + target .sectors;
+      held = 0;
+      end = TargetFault (target .code);
+    })
+
+-- the Copy y stands here, and its last sector is at the front of the buffer, which was `before` when the Copy began
+pub record Stood (r : Route) (y : Copying) (t : Progress) (scratch before buffer : List ℕ) (images : List (List ℕ)) : Type 0 where
+  pub last : List ℕ
+  pub some : length last ≤ r .q .size
+  pub front : buffer ≡ splice 0 last before
+  pub is : y ≡ standing t scratch images last
+
+-- A turn: some source sectors more, whatever was written last.
+pub record TurnedTo (r : Route) (n : ℕ) (s : Progress) (scratch buffer : List ℕ) (images : List (List ℕ))
+    (t : Progress) (scratched after : List ℕ) (left : List (List ℕ)) : Type 0 where
+  pub count : ℕ
+  pub some : 1 ≤ count
+  pub most : s .read + count ≤ n
+  pub counted : t .end ≡ Going → t .read ≡ s .read + count
+  pub under : Underway r n t scratched after left
+  pub on : (last before : List ℕ) → length last ≤ r .q .size → buffer ≡ splice 0 last before
+      → Stood r (copying r count (standing s scratch images last)) t scratched before after left
+
+-- ---- the end
+-- by the Write of the last sector
+unfoldable pub endedBy : Progress → (target : Done) → Copied
+endedBy s target =
+    pick (eqb (target .code) 0) (record { read = s .read; done = s .done + target .sectors; end = Short })
+    (record { read = s .read; done = s .done + target .sectors; end = TargetFault (target .code) })
+
+-- the copy has ended, or all its source sectors are read
+pub record NoTurnLeft (r : Route) (s : Progress) (scratch buffer : List ℕ) (images : List (List ℕ)) : Type 0 where
+  pub count : ℕ
+  pub under : Underway r count s scratch buffer images
+  pub all : s .end ≡ Going → s .read ≡ count
+
+-- The copy is complete, whatever was written last.
+abbrev pub CompletedTo : Route → Progress → (scratch buffer : List ℕ) → (images : List (List ℕ)) → Copied → (after : List ℕ) → (left : List (List ℕ)) → Type 0
+CompletedTo r s scratch buffer images c after left =
+    (last before : List ℕ) → length last ≤ r .q .size → buffer ≡ splice 0 last before
+    → CopiedBy (completed r (standing s scratch images last)) c before after left
