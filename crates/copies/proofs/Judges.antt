@@ -25,6 +25,7 @@ use Rattle.model.specs.Table.{checkNumber, isAmong, rowFor}
 use Rattle.model.specs.Checks.{on, judged, isUnknown, controlWrong, blockWrong, withParams, pastEnd, notSpared, bytesOf, hitsOf, inOrder, judgeOver, fillingOf, shares, firstOf, judgeCopy}
 use Rattle.checks.proofs.Orders.{hits, hits-same}
 use Rattle.model.proofs.engine.Judged.{judged-hit, judged-on, judged-none}
+use Rattle.model.proofs.engine.Copies.{judge-counted}
 
 -- ---- bounds
 pub source-bytes : (n ds : ℕ) → n ≤ 256 → ds ≤ 512 → n * ds ≤ 131072
@@ -81,10 +82,10 @@ pub row-judged : (b : Block) (reach : ℕ) (v : View) {found : Hits} {verdict : 
 row-judged b reach v f h = rw (h, f)
 
 -- ---- all three
-pub copy-judged : (k : CopyBlock) (v w : View) {n m : ℕ} {one two three : Verdict} {later said : Judgement} → n ≡ countOf (k .from)
+pub copy-judged : (k : CopyBlock) (v w : View) {n m : ℕ} {one two three : Verdict} {later said : Judgement} → k .from .opcode ≡ 0x20 → n ≡ countOf (k .from)
     → m ≡ fillingOf n (v .setting) (w .setting) → one ≡ judgeOver (k .from) n v 0 0 → two ≡ judgeOver (k .to) m w 0 0
     → three ≡ judged (on (shares k n m) 0x22 (k .from .address) ∷ [])
     → later ≡ firstOf (record { named = k .to .drive; verdict = two }) (record { named = k .from .drive; verdict = three })
     → said ≡ firstOf (record { named = k .from .drive; verdict = one }) later → said ≡ judgeCopy k v w
 unfolding judgeCopy
-copy-judged k v w en em e1 e2 e3 el es = rw (es, el, e1, e2, e3, em, en)
+copy-judged k v w is en em e1 e2 e3 el es = rw (judge-counted (k .from) v is, es, el, e1, e2, e3, em, en)

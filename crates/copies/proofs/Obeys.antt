@@ -22,7 +22,7 @@ use Rattle.model.specs.declared.verdict.Verdict.{Verdict}
 use Rattle.model.specs.declared.verdict.Verdict.the-variants.{Refused, Faulty, Passed}
 use Rattle.model.specs.declared.verdict.Judgement.{Judgement}
 use Rattle.model.specs.Block.{countOf}
-use Rattle.model.specs.Checks.{on, judged, judgeOver, fillingOf, shares, sayingOf, judgeCopy}
+use Rattle.model.specs.Checks.{on, judged, judgeOver, judge, fillingOf, shares, sayingOf, judgeCopy}
 use Rattle.model.specs.Record.{settingIn, refused, failed, unlessNamed}
 use Rattle.model.specs.Copies.{CopyEffect, copyEffect, routeOf, copyLeft, copyWith}
 use Rattle.model.specs.Engine.{viewOf, imageOf, obeyCopy}
@@ -78,7 +78,7 @@ module _ (k : CopyBlock) (v w : View) (from : WellFormed (k .from)) (to : WellFo
       (from .drive, b .0, b .1)
 
   pub copy-below : (said : Judgement) → said ≡ judgeCopy k v w → Sayable said
-  unfolding judgeCopy
+  unfolding judgeCopy judge
   copy-below said is =
       rw is
       (said-by _ _ _ (λ code at e. let b = fault-over (k .from) _ v 0 0 _ refl code at e (from .address) in (from .drive, b .0, b .1))

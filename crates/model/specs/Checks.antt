@@ -158,6 +158,6 @@ unfoldable pub judgeCopy : CopyBlock → (from to : View) → Judgement
 judgeCopy k v w =
     let n = countOf (k .from) in
     let m = fillingOf n (v .setting) (w .setting) in
-    firstOf (record { named = k .from .drive; verdict = judgeOver (k .from) n v 0 0 })
+    firstOf (record { named = k .from .drive; verdict = judge (k .from) v 0 0 })
     (firstOf (record { named = k .to .drive; verdict = judgeOver (k .to) m w 0 0 })
     (record { named = k .from .drive; verdict = judged (on (shares k n m) 0x22 (k .from .address) ∷ []) }))

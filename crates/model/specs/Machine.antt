@@ -411,20 +411,20 @@ poured q b r v =
     writeFrom q (sectorsFilled (hasPassed (r .end)) (length bytes) (q .size)) b (bytes ++ replicate (q .size) 0) v
 
 -- A destination sector has its bytes before the source goes on: its fault comes first, then the source's, then 23h for a rest.
-unfoldable pub copyEnds : CopyBlock → (end read : Verdict) → (rest done : ℕ) → Machine → Reply × Machine
-copyEnds k (Refused number) read rest done m = (bare number, m)
-copyEnds k (Faulty code at) read rest done m = failingOn (k .to .drive) (k .from) code at done [] m
-copyEnds k Passed (Refused number) rest done m = (bare number, m)
-copyEnds k Passed (Faulty code at) rest done m = failing (k .from) code at done [] m
-copyEnds k Passed Passed zero done m = well (k .from) done [] m
-copyEnds k Passed Passed (suc rest) done m =
-    failingOn (k .to .drive) (k .from) 0x23 (further (k .to .address) (done - 1)) done [] m
+unfoldable pub copyEnds : CopyBlock → (end read : Verdict) → (rest done : ℕ) → (before after : Machine) → Reply × Machine
+copyEnds k (Refused number) read rest done before after = (bare number, before)
+copyEnds k (Faulty code at) read rest done before after = failingOn (k .to .drive) (k .from) code at done [] after
+copyEnds k Passed (Refused number) rest done before after = (bare number, before)
+copyEnds k Passed (Faulty code at) rest done before after = failing (k .from) code at done [] after
+copyEnds k Passed Passed zero done before after = well (k .from) done [] after
+copyEnds k Passed Passed (suc rest) done before after =
+    failingOn (k .to .drive) (k .from) 0x23 (further (k .to .address) (done - 1)) done [] after
 
 unfoldable pub copyOver : CopyBlock → (p q : Params) → Machine → Reply × Machine
 copyOver k p q m =
     let r = readFrom p (countOf (k .from)) (k .from .address) (m .disks (k .from .drive)) in
     let w = poured q (k .to .address) r (m .disks (k .to .drive)) in
-    copyEnds k (w .end) (r .end) (length (inARow (r .sectors)) % q .size) (length (w .sectors))
+    copyEnds k (w .end) (r .end) (length (inARow (r .sectors)) % q .size) (length (w .sectors)) m
     (withDisk (k .to .drive) (w .disk) (withBuffer (leaving (w .sectors) (m .buffer)) m))
 
 unfoldable pub copyBy : CopyBlock → (from to : Setting) → Machine → Reply × Machine

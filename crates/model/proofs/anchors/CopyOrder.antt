@@ -17,7 +17,7 @@ use Rattle.model.specs.Block.{blockOf, isCopy, blockLength, isWhole, cop
 use Rattle.model.specs.Table.{checkNumber, isAmong, rowFor}
 use Rattle.model.specs.declared.verdict.View.{View}
 use Rattle.model.specs.Checks.{judged, presentWith, isUnknown, blockWrong, controlWrong, withParams, interleaveWrong, pastEnd, notSpared, sizeIn, bytesOf, hitsOf, inOrder, judge}
-use Rattle.model.specs.Checks.{fillingOf, shares, sayingOf, judgeCopy}
+use Rattle.model.specs.Checks.{reachOf, fillingOf, shares, sayingOf, judgeCopy}
 use Rattle.model.specs.Sense.{addressed, senseOf}
 use Rattle.model.specs.Feed.{command}
 use Rattle.model.specs.Record.{settingIn, failed, unlessNamed}
@@ -184,7 +184,7 @@ source-first :
     × (with-all 0x00 (at (of256 1 true true 8464) 0x20 30) ≡ always 0x16 0x20 0 0)
 unfolding drive of256 of128 hard floppy at heard said ten four destinations of-destination with-all always
     viewOf settingIn presentWith mediumOf isFloppy isIn rangesOf settingOf settingBy fieldsIn sizeFor fittedTo pick blockOf copyOf countOf rowFor
-    judgeCopy judged sayingOf fillingOf shares inOrder hitsOf isUnknown blockWrong controlWrong withParams interleaveWrong pastEnd notSpared isValid
+    judgeCopy judge reachOf judged sayingOf fillingOf shares inOrder hitsOf isUnknown blockWrong controlWrong withParams interleaveWrong pastEnd notSpared isValid
     sizeIn bytesOf isAmong checkNumber addressed senseOf
 source-first = (refl, refl, refl, refl, refl, refl, refl, refl, refl, refl, refl, refl)
 
@@ -223,7 +223,7 @@ reach :
     × (fits 3 (at large 0x00 15) (at hard 0x20 0) ≡ four 0xA1 0x00 0 15)
 unfolding drive of256 of512 of128 hard large floppy at heard said ten four fits
     viewOf settingIn presentWith mediumOf isFloppy isIn rangesOf settingOf settingBy fieldsIn sizeFor fittedTo pick blockOf copyOf countOf rowFor
-    judgeCopy judged sayingOf fillingOf shares inOrder hitsOf isUnknown blockWrong controlWrong withParams interleaveWrong pastEnd notSpared isValid
+    judgeCopy judge reachOf judged sayingOf fillingOf shares inOrder hitsOf isUnknown blockWrong controlWrong withParams interleaveWrong pastEnd notSpared isValid
     sizeIn bytesOf isAmong checkNumber addressed senseOf
 reach = (refl, refl, refl, refl, refl, refl, refl, refl, refl, refl, refl, refl, refl, refl, refl, refl, refl, refl, refl, refl, refl)
 
@@ -246,7 +246,7 @@ many :
     × (fits 0 (at (of512 16 true false 141456) 0x20 17) (at (of128 64 true false 139280) 0x40 0) ≡ four 0xA1 0x20 0 17)
 unfolding drive of256 of512 of128 hard256 floppy512 at heard said ten four fits
     viewOf settingIn presentWith mediumOf isFloppy isIn rangesOf settingOf settingBy fieldsIn sizeFor fittedTo pick blockOf copyOf countOf rowFor
-    judgeCopy judged sayingOf fillingOf shares inOrder hitsOf isUnknown blockWrong controlWrong withParams interleaveWrong pastEnd notSpared isValid
+    judgeCopy judge reachOf judged sayingOf fillingOf shares inOrder hitsOf isUnknown blockWrong controlWrong withParams interleaveWrong pastEnd notSpared isValid
     sizeIn bytesOf isAmong checkNumber addressed senseOf
 many = (refl, refl, refl, refl, refl, refl, refl, refl, refl)
 
@@ -278,6 +278,6 @@ sharing :
     × (fits 3 (at hard 0x20 29) (at hard 0x20 30) ≡ four 0xA1 0x20 0 30)
 unfolding drive of256 of128 hard floppy at heard said ten four fits shared no-address wide
     viewOf settingIn presentWith mediumOf isFloppy isIn rangesOf settingOf settingBy fieldsIn sizeFor fittedTo pick blockOf copyOf countOf rowFor
-    judgeCopy judged sayingOf fillingOf shares inOrder hitsOf isUnknown blockWrong controlWrong withParams interleaveWrong pastEnd notSpared isValid
+    judgeCopy judge reachOf judged sayingOf fillingOf shares inOrder hitsOf isUnknown blockWrong controlWrong withParams interleaveWrong pastEnd notSpared isValid
     sizeIn bytesOf isAmong checkNumber addressed senseOf
 sharing = (refl, refl, refl, refl, refl, refl, refl, refl, refl)

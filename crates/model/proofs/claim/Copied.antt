@@ -263,7 +263,7 @@ module _ (c : Controller) (images : List (List ℕ)) (m : Machine) (agree : Agre
     abbrev Alike : (read done : ℕ) → End → (end read-end : Verdict) → (rest sectors : ℕ) → Type 0
     Alike read done end write-end read-end rest sectors =
         Answered (replied (leftByCopy (k .from .drive) (copyEffect (copyEnding k read done end (driveAt c (k .from .drive))) buffer now) c area))
-        (copyEnds k write-end read-end rest sectors machine)
+        (copyEnds k write-end read-end rest sectors m machine)
 
     target-fault : (read done code : ℕ) (read-end : Verdict) (rest : ℕ)
         → Alike read done (TargetFault code) (Faulty code (further (k .to .address) done)) read-end rest done

@@ -29,8 +29,8 @@ use Rattle.model.specs.declared.verdict.Verdict.{Verdict}
 use Rattle.model.specs.declared.verdict.Verdict.the-variants.{Refused, Faulty, Passed}
 use Rattle.model.specs.declared.verdict.Judgement.{Judgement}
 use Rattle.model.specs.Block.{countOf}
-use Rattle.model.specs.Table.{Address, Settled, SparedWhole, checkNumber, isAmong, applies, rowFor}
-use Rattle.model.specs.Checks.{on, judged, inOrder, judgeOver, fillingOf, shares, sayingOf, judgeCopy}
+use Rattle.model.specs.Table.{Address, Counted, Settled, SparedWhole, checkNumber, isAmong, applies, rowFor}
+use Rattle.model.specs.Checks.{on, judged, reachOf, inOrder, judgeOver, judge, fillingOf, shares, sayingOf, judgeCopy}
 use Rattle.model.specs.Record.{settingIn, failed, unlessNamed}
 use Rattle.model.specs.Copies.{CopyEffect, copyEffect, routeOf, copyLeft, copyWith}
 use Rattle.model.specs.Engine.{viewOf, imageOf, obeyCopy}
@@ -92,6 +92,12 @@ row-low b reach v =
     (low-pick _ _ _ (low-faulty _ _ (omega arith))
     (low-pick _ _ _ (low-refused _) (low-pick _ _ _ (low-refused _) low-passed))))))))
 
+-- Copy's byte 4 is a count, by its row: the source's sectors must all be there.
+pub judge-counted : (b : Block) (v : View) → b .opcode ≡ 0x20 → judge b v 0 0 ≡ judgeOver b (countOf b) v 0 0
+unfolding judge reachOf rowFor isAmong checkNumber pick
+judge-counted b v is =
+    ap (λ (reach : ℕ). judgeOver b reach v 0 0) (ap (λ (opcode : ℕ). reachOf (applies Counted (rowFor opcode)) b) is)
+
 -- ---- Both drives'
 pub data CopyJudged (k : CopyBlock) (v w : View) : Judgement → Type 0 where
   copy-fault : (named code : ℕ) (at : Lba) → CheckCode code → CopyJudged k v w (record { named = named; verdict = Faulty code at })
@@ -116,10 +122,12 @@ module _ (k : CopyBlock) (v w : View) (from : k .from .opcode ≡ 0x20) (to : k 
   pub judge-copy-by : CopyJudged k v w (judgeCopy k v w)
   unfolding judgeCopy
   judge-copy-by =
-      said-first (k .from .drive) _ (copy-judge-by (k .from) _ v from) (row-low (k .from) _ v)
+      let counts = judge-counted (k .from) v from in
+      rw counts
+      (said-first (k .from .drive) _ (copy-judge-by (k .from) _ v from) (row-low (k .from) _ v)
       (λ one.
       said-first (k .to .drive) _ (copy-judge-by (k .to) _ w to) (row-low (k .to) _ w)
-      (λ two. said-last (k .from .drive) _ _ (λ three. copy-pass (k .from .drive) one two three)))
+      (λ two. said-last (k .from .drive) _ _ (λ three. copy-pass (k .from .drive) one two three))))
 
 -- ---- What both rows and the last test give
 apart-by : (a b n m : ℕ) (x y : Bool) → ltb a (b + m) ≡ x → ltb b (a + n) ≡ y → (x && y) ≡ false → Apart a n b m

@@ -41,7 +41,8 @@ returns c =
     let w = t .before in
     let v = w .before in
     let m = v .before in
-    copy-judged _ _ _ (m .before .count-of .ensures .0) (m .filling-of .ensures .0) (v .judge-row .ensures) (w .judge-row2 .ensures) (t .share-test .ensures) (l .first-of .ensures) (c .first-of2 .ensures)
+    let a = m .before .before .before .before in
+    copy-judged _ _ _ (a .pre .5) (m .before .count-of .ensures .0) (m .filling-of .ensures .0) (v .judge-row .ensures) (w .judge-row2 .ensures) (t .share-test .ensures) (l .first-of .ensures) (c .first-of2 .ensures)
 
 pub judge-copy-spec : {M : Type 1} → statement M
 judge-copy-spec =
