@@ -1,1 +1,4 @@
 pub mod Examples
+pub mod Records
+pub mod CopySessions
+pub mod CopyRecords

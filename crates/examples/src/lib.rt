@@ -1,1 +1,1 @@
-// Document 01's proved examples. Definitions and facts, no code.
+// Document 01's proved examples, and the values that take longest to compute. Definitions and facts, no code.

@@ -10,7 +10,4 @@ pub mod DamageEnds
 pub mod CopyDamage
 pub mod Session
 pub mod Floppies
-pub mod CopySessions
 pub mod Leaves
-pub mod Records
-pub mod CopyRecords

@@ -44,8 +44,6 @@ use Rattle.model.specs.Claim.{begin, beginMachine, isHeld, Holds, Claim}
 use Rattle.model.proofs.claim.Claimed.{claimed}
 use Rattle.model.proofs.anchors.Session.{Line, allTold, lengthsOf, Answers, six, config, session, worked}
 use Rattle.model.proofs.anchors.Floppies.{lacking, mistaking, formatting, transferring, marking, worked as floppies-worked}
-use Rattle.model.proofs.anchors.CopySessions.{there-and-back, filled-up, on-one-drive, in-order as copies-in-order, lacking as copies-lacking}
-use Rattle.model.proofs.anchors.CopySessions.{bad-source, bad-destination, both-bad, in-pairs as copies-in-pairs, count-zero, worked as copies-worked}
 use Rattle.model.proofs.anchors.Leaves.{leaves, after-start, well-done, tracks-made, moved-bytes, cut-short, at-fault, in-pairs, in-order, turned-away, reset-all}
 
 -- ---- Zeros are no label, of a hard disk or of a floppy: the claim holds for four zero images of any lengths
@@ -104,11 +102,11 @@ module _ (n₀ n₁ n₂ n₃ : ℕ) where
   unfolding beginMachine
   machine-same = ap freshMachine (λ i drive. zero-length drive i)
 
-  EngineAnswers : List Line → Type 0
+  pub EngineAnswers : List Line → Type 0
   EngineAnswers lines = (calls : List Call) → map fed calls ≡ map (λ (l : Line). l .call) lines
       → allTold (engineReplies (begin allZeros) calls) lines ≡ true
 
-  engine-answers : (lines : List Line) → Answers (lengthsOf n₀ n₁ n₂ n₃) lines → EngineAnswers lines
+  pub engine-answers : (lines : List Line) → Answers (lengthsOf n₀ n₁ n₂ n₃) lines → EngineAnswers lines
   unfolding Answers EngineAnswers
   engine-answers lines answers calls is =
       ap (λ (told : List Reply). allTold told lines) (zero-claim calls .0
@@ -159,27 +157,6 @@ engine-leaves =
       answers (after-start in-order) (leaves .6),
       answers (after-start turned-away) (leaves .7),
       answers (after-start reset-all) (leaves .8),
-    )
-
--- and those with copies
-engine-copies : EngineAnswers 8464 8856 4368 0 there-and-back × EngineAnswers 8464 8856 4368 0 filled-up
-    × EngineAnswers 8464 8856 4368 0 on-one-drive × EngineAnswers 8464 8856 4368 0 copies-in-order
-    × EngineAnswers 8464 8856 4368 0 copies-lacking × EngineAnswers 8464 8856 4368 0 bad-source
-    × EngineAnswers 8464 8856 4368 0 bad-destination × EngineAnswers 25360 8856 4368 0 both-bad
-    × EngineAnswers 25360 8856 4368 0 copies-in-pairs × EngineAnswers 0 35376 34832 0 count-zero
-engine-copies =
-    let answers = engine-answers 8464 8856 4368 0 in
-    let answers-three = engine-answers 25360 8856 4368 0 in (
-      answers there-and-back (copies-worked .0),
-      answers filled-up (copies-worked .1),
-      answers on-one-drive (copies-worked .2),
-      answers copies-in-order (copies-worked .3),
-      answers copies-lacking (copies-worked .4),
-      answers bad-source (copies-worked .5),
-      answers bad-destination (copies-worked .6),
-      answers-three both-bad (copies-worked .7),
-      answers-three copies-in-pairs (copies-worked .8),
-      engine-answers 0 35376 34832 0 count-zero (copies-worked .9),
     )
 
 -- ---- What was saved is found: three tracks are formatted, track 1 is moved to 2, and two sectors are written, the last of track 0

@@ -9,22 +9,23 @@ use Rattle.base.specs.Pick.{pick}
 use Rattle.base.specs.Same.{sameBytes}
 use Rattle.geometry.specs.Medium.{mediumOf, isFloppy, isIn, rangesOf}
 use Rattle.geometry.specs.Config.{sizeFor, fittedTo, fieldsIn, settingBy, settingOf, isValid}
 use Rattle.model.specs.Block.{blockOf, copyOf, countOf, fromBuffer, isWhole, blockLength, isCopy}
 use Rattle.model.specs.Table.{checkNumber, isAmong, rowFor}
 use Rattle.model.specs.Checks.{judged, presentWith, isUnknown, blockWrong, controlWrong, withParams, interleaveWrong, pastEnd, notSpared, sizeIn, bytesOf, reachOf, hitsOf, inOrder, judge}
 use Rattle.model.specs.Checks.{fillingOf, shares, sayingOf, judgeCopy}
 use Rattle.model.specs.Sense.{addressed, senseOf}
 use Rattle.model.specs.Feed.{command}
 use Rattle.model.specs.Machine.{freshDisk, freshMachine, changed, withSense, withBuffer, withDisk, inForce, becomes, filled, storing, failingOn, providingOn}
 use Rattle.model.specs.Machine.{well}
 use Rattle.model.specs.Machine.{isBad, isMoved, isTaken, denied, paired, parted, partedBy, someParted, addressGiven, unassignable}
 use Rattle.model.specs.Machine.{finished, withFirst, passing, readFrom, writeFrom, inARow, leaving, transferBy, transfer}
 use Rattle.model.specs.Machine.{fillingOn, filling, fromOn, reformatted}
 use Rattle.model.specs.Machine.{formatDrive, checkTrack, formatTrack, formatBadTrack, read, write, assignTo, assignAlternate, isStored, initializeBy}
 use Rattle.model.specs.Machine.{freely, seeking, onTracks, onSectors, withParameters, carried, settingWith, seen, ordered, restored, step}
 use Rattle.model.specs.Machine.{hasPassed, sectorsFilled, poured, copyEnds, copyOver, copyBy, orderedCopy}
 use Rattle.model.specs.Claim.{replies}
 use Rattle.model.proofs.anchors.Session.{Line, told, allTold, says, four, six, config, sent, senses, lengthsOf, Answers}
+use Rattle.model.proofs.readers.Sessions.{EngineAnswers, engine-answers}
 
 -- ---- How it is asked
 -- 128 bytes that show where they begin
@@ -361,3 +362,24 @@ unfolding piece pieces asks saves reads sets buffers copies well-copied ill-copi
     write assignTo assignAlternate isStored initializeBy freely seeking onTracks onSectors withParameters carried settingWith seen ordered restored
     hasPassed sectorsFilled poured copyEnds copyOver copyBy orderedCopy step replies isWhole blockLength isCopy
 worked = (refl, refl, refl, refl, refl, refl, refl, refl, refl, refl)
+
+-- By the claim the engine answers so too, on images of zeros as long as these disks.
+engine-copies : EngineAnswers 8464 8856 4368 0 there-and-back × EngineAnswers 8464 8856 4368 0 filled-up
+    × EngineAnswers 8464 8856 4368 0 on-one-drive × EngineAnswers 8464 8856 4368 0 in-order
+    × EngineAnswers 8464 8856 4368 0 lacking × EngineAnswers 8464 8856 4368 0 bad-source
+    × EngineAnswers 8464 8856 4368 0 bad-destination × EngineAnswers 25360 8856 4368 0 both-bad
+    × EngineAnswers 25360 8856 4368 0 in-pairs × EngineAnswers 0 35376 34832 0 count-zero
+engine-copies =
+    let answers = engine-answers 8464 8856 4368 0 in
+    let answers-three = engine-answers 25360 8856 4368 0 in (
+      answers there-and-back (worked .0),
+      answers filled-up (worked .1),
+      answers on-one-drive (worked .2),
+      answers in-order (worked .3),
+      answers lacking (worked .4),
+      answers bad-source (worked .5),
+      answers bad-destination (worked .6),
+      answers-three both-bad (worked .7),
+      answers-three in-pairs (worked .8),
+      engine-answers 0 35376 34832 0 count-zero (worked .9),
+    )
