@@ -7,6 +7,7 @@
 //! calls of the proved library, for `tests/instructions`, which has valgrind count them; `bench rows`
 //! lists disks and rows, and a count takes any `Read N`, `Write N` and `Format N tracks` besides.
 
+use std::cell::RefCell;
 use std::hint::black_box;
 use std::ops::Range;
 use std::time::Instant;
@@ -47,16 +48,7 @@ static DISKS: [Disk; 3] = [
         tracks: 3,
         rows: &ROWS,
     },
-    Disk {
-        name: "largest",
-        drive: 0,
-        config: [4, 0, 7, 0, 2, 0, 0, 0, 0, 11],
-        length: 63_365_136,
-        sectors: 121_856,
-        size: 512,
-        tracks: 7_168,
-        rows: &ROWS,
-    },
+    largest("largest", 0),
     Disk {
         name: "floppy",
         drive: 2,
@@ -70,16 +62,20 @@ static DISKS: [Disk; 3] = [
 ];
 
 /// The largest disk once more, to copy to.
-static SECOND: Disk = Disk {
-    name: "second",
-    drive: 1,
-    config: [4, 0, 7, 0, 2, 0, 0, 0, 0, 11],
-    length: 63_365_136,
-    sectors: 121_856,
-    size: 512,
-    tracks: 7_168,
-    rows: &ROWS,
-};
+static SECOND: Disk = largest("second", 1);
+
+const fn largest(name: &'static str, drive: usize) -> Disk {
+    Disk {
+        name,
+        drive,
+        config: [4, 0, 7, 0, 2, 0, 0, 0, 0, 11],
+        length: 63_365_136,
+        sectors: 121_856,
+        size: 512,
+        tracks: 7_168,
+        rows: &ROWS,
+    }
+}
 
 /// Two disks, and how many sectors of the first are copied to the second.
 struct Copying {
@@ -263,7 +259,10 @@ struct Memories {
 
 impl Memories {
     fn new(copying: &Copying) -> Memories {
-        Memories { from: Memory::new(copying.from), to: Memory::new(copying.to) }
+        let mut to = Memory::new(copying.to);
+        // addresses of their own: else each copy would begin on the same sector of a track on both
+        to.next = 2;
+        Memories { from: Memory::new(copying.from), to }
     }
 
     /// Where to copy from and to.
@@ -341,11 +340,12 @@ impl Copying {
         (plain, proved)
     }
 
-    fn measure(&self, proved: &mut impl Engine, plain: &mut impl Engine, memories: &mut Memories) {
-        let copies = vec![self.copies(proved), self.copies(plain)];
-        let engines = nanoseconds(copies, memories);
-        let (ours, theirs) = (engines[0], engines[1]);
-        let transfers = nanoseconds(vec![self.transfers(proved)], memories)[0];
+    /// Copies, and Read and Write of as many sectors, take turns; the flat copy has memory of its own.
+    fn measure(&self, proved: impl Engine, plain: impl Engine, memories: &mut Memories) {
+        let (proved, plain) = (RefCell::new(proved), RefCell::new(plain));
+        let runs = vec![self.copies(&proved), self.copies(&plain), self.transfers(&proved)];
+        let times = nanoseconds(runs, memories);
+        let (ours, theirs, transfers) = (times[0], times[1], times[2]);
         let flat = nanoseconds(vec![self.flat()], memories)[0];
         println!(
             "| {} | {} | {ours:.0} | {theirs:.0} | {flat:.0} | {transfers:.0} | {:.2} | {:.2} | {:.2} |",
@@ -357,13 +357,15 @@ impl Copying {
         );
     }
 
-    fn copies<'a>(&'a self, engine: &'a mut impl Engine) -> Run<'a, Memories> {
-        Box::new(|memories, calls| (0..calls).for_each(|_| self.execute_copy(engine, memories)))
+    fn copies<'a>(&'a self, engine: &'a RefCell<impl Engine>) -> Run<'a, Memories> {
+        Box::new(|memories, calls| {
+            (0..calls).for_each(|_| self.execute_copy(&mut *engine.borrow_mut(), memories))
+        })
     }
 
-    fn transfers<'a>(&'a self, engine: &'a mut impl Engine) -> Run<'a, Memories> {
+    fn transfers<'a>(&'a self, engine: &'a RefCell<impl Engine>) -> Run<'a, Memories> {
         Box::new(|memories, calls| {
-            (0..calls).for_each(|_| self.execute_transfers(engine, memories))
+            (0..calls).for_each(|_| self.execute_transfers(&mut *engine.borrow_mut(), memories))
         })
     }
 
@@ -483,8 +485,8 @@ fn copy_table() {
     println!("|---|---|---|---|---|---|---|---|---|");
     for copying in &COPIES {
         let mut memories = Memories::new(copying);
-        let (mut plain, mut proved) = copying.in_use(&mut memories);
-        copying.measure(&mut proved, &mut plain, &mut memories);
+        let (plain, proved) = copying.in_use(&mut memories);
+        copying.measure(proved, plain, &mut memories);
     }
 }
 
@@ -531,8 +533,8 @@ fn grown(disk: &Disk, memory: &mut Memory, wanted: &str) -> [u8; 6] {
 fn count(name: &str, wanted: &str, calls: u32) {
     if let Some(copying) = COPIES.iter().find(|copying| copying.name == name) {
         let mut memories = Memories::new(copying);
-        let (_, mut proved) = copying.in_use(&mut memories);
-        copying.copies(&mut proved)(&mut memories, calls);
+        let (_, proved) = copying.in_use(&mut memories);
+        copying.copies(&RefCell::new(proved))(&mut memories, calls);
         return;
     }
     let disk = DISKS.iter().find(|disk| disk.name == name).expect("a disk of `bench rows`");
