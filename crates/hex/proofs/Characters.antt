@@ -1,7 +1,7 @@
 -- Laws of one character of a line: what it makes of the line, case by case.
 use Prim.Native.Nat.{ℕ, _+_, _*_, _≤_, _<_}
 use mathlib.Core.Path.{_≡_, refl, sym, ap, _∙_}
-use mathlib.Core.Bool.{Bool, true, false}
+use mathlib.Core.Bool.{Bool, true, false, or-true}
 use mathlib.Core.List.{List}
 use native.Mathlib.Omega.{arith}
 use lib.ListN.{length, set}
@@ -10,7 +10,7 @@ use borrow.Author.Tests.{lt-ltb, le-ltb, eq-eqb, ne-eqb}
 use Rattle.base.specs.Pick.{pick}
 use Rattle.hex.specs.declared.line.Line.{Line}
 use Rattle.hex.specs.Hex.{valueOf}
-use Rattle.hex.specs.Line.{Reading, lineNow, spoiltLine, spoilt, takenIn, accepted}
+use Rattle.hex.specs.Line.{Reading, lineNow, spoiltLine, spoilt, takenIn, accepted, isBegun}
 use Rattle.hex.proofs.Digits.{value-small}
 
 module _ (line : Line) (bytes : List ℕ) (v : ℕ) where
@@ -75,3 +75,17 @@ module _ (line r : Line) (bytes : List ℕ) (c v : ℕ) (good : line .bad ≡ fa
         e ∙ rw value (sym (accepted-digit line bytes c good (omega arith))),
         rw (ap (λ (x : Reading). x .line .high) e) (taken-high (lineNow line bytes) v _ _ refl refl small h),
       )
+
+-- ---- whether any character has been read
+module _ (line : Line) where
+  pub begun-bad : line .bad ≡ true → true ≡ isBegun line
+  unfolding isBegun
+  begun-bad e = rw e
+
+  pub begun-half : line .half ≡ true → true ≡ isBegun line
+  unfolding isBegun
+  begun-half e = rw (e, or-true (line .bad))
+
+  pub begun-count : line .bad ≡ false → line .half ≡ false → ltb 0 (line .count) ≡ isBegun line
+  unfolding isBegun
+  begun-count e h = rw (e, h)

@@ -3,3 +3,4 @@ pub mod Lines
 pub mod Texts
 pub mod Rooms
 pub mod Characters
+pub mod Frames

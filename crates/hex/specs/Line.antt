@@ -1,6 +1,6 @@
 -- A line read one character at a time.
 use Prim.Native.Nat.{ℕ, _+_, _*_}
-use mathlib.Core.Bool.{true, false, _||_}
+use mathlib.Core.Bool.{Bool, true, false, _||_}
 use mathlib.Core.Option.{Option, none, some}
 use mathlib.Core.List.{List, [], _∷_}
 use lib.ListN.{length, take, set}
@@ -44,6 +44,10 @@ accepted x c = pick (x .line .bad) x (pick (eqb (valueOf c) 16) (spoilt x) (take
 unfoldable pub acceptedAll : Reading → (text : List ℕ) → Reading
 acceptedAll x [] = x
 acceptedAll x (c ∷ text) = acceptedAll (accepted x c) text
+
+-- A character of the line has been read.
+unfoldable pub isBegun : Line → Bool
+isBegun line = line .bad || (line .half || ltb 0 (line .count))
 
 -- What has been read, as a whole: its bytes, or none where the line is bad.
 unfoldable pub wholeOf : Reading → Option (List ℕ)

@@ -2,7 +2,7 @@
 use crate::digit::value_of;
 ghost use mathlib.Core.Path.{_≡_};
 ghost use Prim.Native.Nat.{_<_};
-ghost use Rattle.hex.specs.Line.{started, spoiltLine, lineNow, takenIn, accepted, acceptedAll};
+ghost use Rattle.hex.specs.Line.{started, spoiltLine, lineNow, takenIn, accepted, acceptedAll, isBegun};
 
 // What is read of a line so far.
 pub struct Line {
@@ -90,4 +90,17 @@ pub fn accept_all(first: Line, bytes: &mut [u8], text: &[u8]) -> Line
         i += 1;
     }
     line
+}
+
+// Whether any character of a line has been read.
+pub fn is_begun(line: Line) -> bool
+    ensures { λ r. ⌜ r ≡ isBegun line ⌝ }
+{
+    if line.bad {
+        return true;
+    }
+    if line.half {
+        return true;
+    }
+    0 < line.count
 }

@@ -7,10 +7,8 @@ use mathlib.Core.List.{List, []}
 use native.Mathlib.Omega.{arith}
 use native.Mathlib.Decide.{decLt}
 use native.Mathlib.Nat.{sub-zero}
-use lib.ListN.{length, take, drop, getD, length-take, length-drop, drop-of-length-le}
+use lib.ListN.{length, take, drop, length-take, length-drop, drop-of-length-le}
 use lib.Seq.{take-all}
-use lib.Dec.{eqb}
-use borrow.Author.Tests.{eq-eqb, ne-eqb}
 use Rattle.base.specs.Part.{splice}
 use Rattle.base.proofs.Decide.{pick-true, pick-false}
 use Rattle.model.specs.declared.record.Controller.{Controller}
@@ -20,18 +18,10 @@ use Rattle.model.specs.Engine.{execute, resetOf}
 use Rattle.engine.specs.Results.{resultNow}
 use Rattle.hex.specs.declared.line.Line.{Line}
 use Rattle.hex.specs.Line.{lineNow, wholeOf}
-use Rattle.lines.specs.Said.{answerText, resetText, badText, Said, Says, resultSaid, frameSaid, resetSaid, badSaid, isReset, lineSaid}
+use Rattle.hex.specs.Frame.{isReset}
+use Rattle.lines.specs.Said.{answerText, resetText, badText, Said, Says, resultSaid, frameSaid, resetSaid, badSaid, lineSaid}
 use Rattle.lines.specs.declared.answer.Told.{Told}
 use Rattle.lines.proofs.AnswerTexts.{told-length, length-reset, front-taken}
-
--- ---- FF alone
-pub reset-longer : (frame : List ℕ) → (length frame ≡ 1 → ⊥) → false ≡ isReset frame
-unfolding isReset
-reset-longer frame h = rw (ne-eqb (length frame) 1 h)
-
-pub reset-one : (frame : List ℕ) → length frame ≡ 1 → eqb (getD frame 0 0) 0xFF ≡ isReset frame
-unfolding isReset
-reset-one frame h = rw (eq-eqb (length frame) 1 h)
 
 -- ---- the answer to Reset
 pub reset-answered : (images : List (List ℕ)) (text after : List ℕ) (outcome : Outcome) (n : ℕ) → outcome ≡ resetOf images

@@ -1,27 +1,26 @@
 -- What the functions that take the input leave: the characters up to a line feed are of the line under way, then it is answered.
 use Prim.Native.Nat.{ℕ, suc, _+_, _-_, _≤_, _<_}
 use mathlib.Core.Path.{_≡_, refl, sym, ap, subst, _∙_}
-use mathlib.Core.Bool.{Bool, true, false, or-true}
+use mathlib.Core.Bool.{Bool, true, false}
 use mathlib.Core.List.{List, [], _∷_}
 use native.Mathlib.Omega.{arith}
 use native.Mathlib.Nat.{sub-zero}
 use native.Mathlib.Numerals.{add-one}
 use lib.ListN.{length, take, drop, getD, drop-of-length-le}
 use lib.Seq.{take-all, drop-cons}
-use lib.Dec.{ltb}
 use borrow.Author.Tests.{eq-eqb, ne-eqb}
 use Rattle.base.specs.Part.{splice}
 use Rattle.base.proofs.Decide.{pick-true, pick-false}
 use Rattle.base.proofs.Parts.{splice-none}
 use Rattle.model.specs.Engine.{fresh}
 use Rattle.hex.specs.declared.line.Line.{Line}
-use Rattle.hex.specs.Line.{Reading, lineNow, started, acceptedAll, wholeOf}
+use Rattle.hex.specs.Line.{Reading, lineNow, started, acceptedAll, isBegun, wholeOf}
 use Rattle.hex.proofs.Rooms.{all-room}
 use Rattle.lines.specs.declared.answer.Told.{Told}
 use Rattle.lines.specs.declared.talk.Session.{Session}
 use Rattle.lines.specs.declared.talk.Heard.{Heard}
 use Rattle.lines.specs.Said.{Says, lineSaid}
-use Rattle.lines.specs.Talk.{Talk, answered, talked, isBegun, closed}
+use Rattle.lines.specs.Talk.{Talk, answered, talked, closed}
 use Rattle.lines.specs.Frames.{firstTalk, Talking}
 use Rattle.lines.specs.Hearing.{talkNow, Speaks, AtFirst, feedAt, lineEnd}
 use Rattle.lines.proofs.Talks.{withReading, quiet, feed-here, feed-later, feed-within, heard-open, heard-line}
@@ -122,19 +121,6 @@ module _ (session : Session) (input bytes area text : List ℕ) (images : List (
       (all-room (lineNow (session .line) bytes) (take (end - 0) input) (stands t .room))
 
 -- ---- the end of the input
-module _ (line : Line) where
-  pub begun-bad : line .bad ≡ true → true ≡ isBegun line
-  unfolding isBegun
-  begun-bad e = rw e
-
-  pub begun-half : line .half ≡ true → true ≡ isBegun line
-  unfolding isBegun
-  begun-half e = rw (e, or-true (line .bad))
-
-  pub begun-count : line .bad ≡ false → line .half ≡ false → ltb 0 (line .count) ≡ isBegun line
-  unfolding isBegun
-  begun-count e h = rw (e, h)
-
 module _ (session : Session) (bytes area text : List ℕ) (images : List (List ℕ)) (begun : Bool) (is : begun ≡ isBegun (session .line)) where
   abbrev last : Talk
   last = talkNow session bytes area images

@@ -10,11 +10,11 @@ use lib.Dec.{eqb}
 use borrow.Author.Tests.{lt-ltb}
 use Rattle.base.specs.Pick.{pick}
 use Rattle.base.proofs.Decide.{pick-true, pick-false}
-use Rattle.hex.specs.Line.{Reading, lineNow, started, spoilt, spoiltLine, accepted, acceptedAll, wholeOf, lineOf}
+use Rattle.hex.specs.Line.{Reading, lineNow, started, spoilt, spoiltLine, accepted, acceptedAll, isBegun, wholeOf, lineOf}
 use Rattle.hex.proofs.Lines.{line-read}
 use Rattle.hex.proofs.Rooms.{accepted-by, all-length, all-append}
 use Rattle.lines.specs.Said.{Said, lineSaid}
-use Rattle.lines.specs.Talk.{Talk, Spoken, answered, talked, isBegun, closed}
+use Rattle.lines.specs.Talk.{Talk, Spoken, answered, talked, closed}
 use Rattle.lines.specs.Frames.{withFirst, linesOf, saidBehind, linesSaid, framesSaid, firstTalk, spokenBehind, joined, endSaid, piecesSaid}
 use Rattle.lines.proofs.Talks.{withReading, quiet, talked-pieces, talked-plain, talked-feed}
 

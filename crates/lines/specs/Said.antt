@@ -1,11 +1,9 @@
 -- Document 01, the program frames: what a line is answered by, and what it leaves.
 use Prim.Native.Nat.{ℕ}
 use mathlib.Core.Path.{_≡_}
-use mathlib.Core.Bool.{Bool, _&&_}
 use mathlib.Core.Option.{Option, none, some}
 use mathlib.Core.List.{List, [], _∷_, _++_}
-use lib.ListN.{length, take, drop, getD}
-use lib.Dec.{eqb}
+use lib.ListN.{length, take, drop}
 use Rattle.base.specs.Pick.{pick}
 use Rattle.base.specs.Part.{splice}
 use Rattle.model.specs.declared.record.Answer.{Answer}
@@ -14,6 +12,7 @@ use Rattle.model.specs.Block.{blockLength}
 use Rattle.model.specs.Record.{bareAnswer}
 use Rattle.model.specs.Engine.{Result, execute, resetOf}
 use Rattle.hex.specs.Hex.{encoded}
+use Rattle.hex.specs.Frame.{isReset}
 use Rattle.lines.specs.declared.answer.Told.{Told}
 
 -- Number, status, message, data; then a line feed.
@@ -62,10 +61,6 @@ resetSaid area images =
 
 unfoldable pub badSaid : Controller → (area : List ℕ) → (images : List (List ℕ)) → Said
 badSaid c area images = record { controller = c; text = badText; area = area; images = images }
-
--- FF alone is Reset.
-unfoldable pub isReset : (frame : List ℕ) → Bool
-isReset frame = eqb (length frame) 1 && eqb (getD frame 0 0) 0xFF
 
 -- A line's bytes, or none where it is bad hex or has too many: then FF, and nothing changes.
 unfoldable pub lineSaid : Controller → Option (List ℕ) → (area : List ℕ) → (images : List (List ℕ)) → Said

@@ -1,12 +1,10 @@
 -- The program frames, its input taken a character at a time: what is said, and where the program stands.
 use Prim.Native.Nat.{ℕ}
-use mathlib.Core.Bool.{Bool, _||_}
 use mathlib.Core.List.{List, [], _∷_, _++_}
-use lib.Dec.{eqb, ltb}
+use lib.Dec.{eqb}
 use Rattle.base.specs.Pick.{pick}
 use Rattle.model.specs.declared.record.Controller.{Controller}
-use Rattle.hex.specs.declared.line.Line.{Line}
-use Rattle.hex.specs.Line.{Reading, lineNow, started, accepted, wholeOf}
+use Rattle.hex.specs.Line.{Reading, lineNow, started, accepted, isBegun, wholeOf}
 use Rattle.lines.specs.Said.{lineSaid}
 
 -- Between two characters: the controller, what is read of the line under way, the data area, the images.
@@ -45,10 +43,6 @@ talked x [] = record { talk = x; text = [] }
 talked x (c ∷ input) =
     let rest = talked (heard x c .talk) input in
     record { talk = rest .talk; text = heard x c .text ++ rest .text }
-
--- A character of the line has been read.
-unfoldable pub isBegun : Line → Bool
-isBegun line = line .bad || (line .half || ltb 0 (line .count))
 
 -- The input has ended: a last line without a line feed counts.
 unfoldable pub closed : Talk → Spoken

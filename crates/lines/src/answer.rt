@@ -2,6 +2,7 @@
 use checks::block::block_length;
 use engine::reset::reset;
 use engine::run::execute;
+use hex::frame::is_reset;
 use hex::line::Line;
 use hex::text::encode;
 use model::record::Answer;
@@ -12,7 +13,7 @@ ghost use lib.ListN.{length};
 ghost use Rattle.base.specs.Part.{splice};
 ghost use Rattle.model.specs.Engine.{imagesOf, resetOf};
 ghost use Rattle.hex.specs.Line.{lineNow, wholeOf};
-ghost use Rattle.lines.specs.Said.{answerText, badText, resetText, isReset, Says, frameSaid, lineSaid};
+ghost use Rattle.lines.specs.Said.{answerText, badText, resetText, Says, frameSaid, lineSaid};
 
 const LINE_FEED: u8 = 0x0A;
 
@@ -34,16 +35,6 @@ fn tell(text: &mut [u8], answer: Answer, handed: &[u8]) -> usize
     let end = 6 + 2 * handed.len();
     text[end] = LINE_FEED;
     end + 1
-}
-
-// FF alone.
-fn is_reset(frame: &[u8]) -> bool
-    ensures { λ r. ⌜ r ≡ isReset (now (frame .entry)) ⌝ }
-{
-    if frame.len() != 1 {
-        return false;
-    }
-    frame[0] == 0xFF
 }
 
 fn least(a: usize, b: usize) -> usize

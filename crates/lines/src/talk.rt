@@ -3,13 +3,14 @@ use crate::answer::answer_line;
 use engine::reset::fresh;
 use hex::line::Line;
 use hex::line::accept_all;
+use hex::line::is_begun;
 use hex::line::start;
 use model::record::Controller;
 ghost use mathlib.Core.Path.{_≡_};
 ghost use Prim.Native.Nat.{_+_, _*_, _≤_};
 ghost use lib.ListN.{length, take};
 ghost use Rattle.model.specs.Engine.{imagesOf};
-ghost use Rattle.lines.specs.Talk.{answered, talked, isBegun, closed};
+ghost use Rattle.lines.specs.Talk.{answered, talked, closed};
 ghost use Rattle.lines.specs.Frames.{firstTalk, Talking};
 ghost use Rattle.lines.specs.Hearing.{talkNow, Speaks, AtFirst, textLength, feedAt, lineEnd};
 
@@ -140,19 +141,6 @@ pub fn hear(
         image3,
         text,
     )
-}
-
-// Whether any character of a line has been read.
-fn is_begun(line: Line) -> bool
-    ensures { λ r. ⌜ r ≡ isBegun line ⌝ }
-{
-    if line.bad {
-        return true;
-    }
-    if line.half {
-        return true;
-    }
-    0 < line.count
 }
 
 // The input has ended: a last line without a line feed counts.

@@ -1,6 +1,6 @@
-use Rattle.lines.proofs.Hearings.{begun-bad, begun-half, begun-count}
-use Rattle.lines.proofs.talk.is_begun.Statement.{statement}
-use Rattle.lines.proofs.talk.is_begun.Tie as tie
+use Rattle.hex.proofs.Characters.{begun-bad, begun-half, begun-count}
+use Rattle.hex.proofs.line.is_begun.Statement.{statement}
+use Rattle.hex.proofs.line.is_begun.Tie as tie
 
 returns : tie.Need-returns
 returns c = begun-bad _ (c .if1 .taken)

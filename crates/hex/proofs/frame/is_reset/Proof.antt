@@ -1,7 +1,7 @@
 use borrow.Author.Needs.{needs}
-use Rattle.lines.proofs.Answers.{reset-longer, reset-one}
-use Rattle.lines.proofs.answer.is_reset.Statement.{statement}
-use Rattle.lines.proofs.answer.is_reset.Tie as tie
+use Rattle.hex.proofs.Frames.{reset-longer, reset-one}
+use Rattle.hex.proofs.frame.is_reset.Statement.{statement}
+use Rattle.hex.proofs.frame.is_reset.Tie as tie
 
 returns : tie.Need-returns
 returns c = reset-longer _ (c .if1 .taken)
