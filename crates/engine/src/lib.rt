@@ -1,3 +1,2 @@
-// The engine: Reset and the commands, on a controller's record by value and lent images.
-pub mod reset;
+// The engine: the commands, on a controller's record by value and lent images.
 pub mod run;

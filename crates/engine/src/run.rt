@@ -5,6 +5,7 @@ use checks::block::is_copy;
 use checks::block::is_whole;
 use copies::obey::obey_copy;
 use dispatch::obey::obey;
+use drives::entry::drive_at;
 use endings::ending::bare_answer;
 use model::block::Block;
 use model::block::CopyBlock;
@@ -15,29 +16,12 @@ use model::record::Ending;
 use model::record::Outcome;
 ghost use mathlib.Core.Path.{_≡_};
 ghost use Prim.Native.Nat.{_<_};
-ghost use lib.ListN.{length, getD, set};
-ghost use Rattle.model.specs.Record.{blankDrive};
+ghost use lib.ListN.{length, set};
 ghost use mathlib.Core.Bool.{true};
 ghost use Rattle.model.specs.Block.{blockOf, isWhole};
 ghost use Rattle.model.specs.Engine.{imagesOf, execute};
 ghost use Rattle.model.specs.Premises.{WellFormed};
 ghost use Rattle.engine.specs.Results.{lentNow, obeyed, resultNow, IsCopy, CopyRan};
-
-fn drive_at(drives: [Drive; 4], drive: u8) -> Drive
-    requires { ⌜ drive < 4 ⌝ }
-    ensures { λ r. ⌜ r ≡ getD drives drive blankDrive ⌝ }
-{
-    if drive == 0 {
-        return drives[0];
-    }
-    if drive == 1 {
-        return drives[1];
-    }
-    if drive == 2 {
-        return drives[2];
-    }
-    drives[3]
-}
 
 fn with_drive(drives: [Drive; 4], drive: u8, entry: Drive) -> [Drive; 4]
     requires { ⌜ drive < 4 ⌝ }

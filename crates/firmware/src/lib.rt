@@ -1,7 +1,7 @@
 // The firmware's form of the calls: it lends the controller's record and has it changed there. Thin calls over the engine,
 // which takes the drives by value and is lent the buffer, and makes a record by value, for C and Rust to link.
-use engine::reset::fresh;
-use engine::reset::reset;
+use drives::reset::fresh;
+use drives::reset::reset;
 use engine::run::execute_on;
 use model::record::Answer;
 use model::record::Controller;

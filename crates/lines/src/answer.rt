@@ -1,6 +1,6 @@
 // One line of the program frames: a frame, Reset or bad hex, and the line of hex digits that answers it.
 use checks::block::block_length;
-use engine::reset::reset;
+use drives::reset::reset;
 use engine::run::execute;
 use hex::frame::is_reset;
 use hex::line::Line;

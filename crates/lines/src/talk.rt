@@ -1,6 +1,6 @@
 // The program's input, taken a line at a time: where the program stands, and what it says.
 use crate::answer::answer_line;
-use engine::reset::fresh;
+use drives::reset::fresh;
 use hex::line::Line;
 use hex::line::accept_all;
 use hex::line::is_begun;

@@ -4,9 +4,9 @@
 use Rattle.model.specs.declared.record.Controller.{Controller}
 use Rattle.model.proofs.record.Controller as controller
 use Rattle.model.proofs.record.Controller.Laws as controller′
-use Rattle.engine.proofs.reset.fresh as fresh
-use Rattle.engine.proofs.reset.fresh.Symbol as fresh′
-use Rattle.engine.proofs.reset.fresh.Met as fresh-met
+use Rattle.drives.proofs.reset.fresh as fresh
+use Rattle.drives.proofs.reset.fresh.Symbol as fresh′
+use Rattle.drives.proofs.reset.fresh.Met as fresh-met
 use Rattle.walks.proofs.Kit.{_≡_, refl, [], _∷_, URA, named, SProp, id⊢, Memory, Routine, Heap, Calls, Loops, WpFn, Atoms, Fun, givenOf}
 use Rattle.walks.proofs.Kit.{Contract, Triple, Lasts, FmC, fmOf, Given, Item, raw, _$_, _∵_, !, qed, by, move, drop, rewrite, unit, nothing-makes}
 use Rattle.walks.proofs.Kit.{look, init, stop, from, of-opd, unit-lit, and-then, no-more, land, returns, calls-at}
@@ -78,6 +78,6 @@ unfolding code.routine
 lanthewg-fresh-spec 𝓤 H 𝓜 𝓖 𝓡 =
     let W : Given 𝓤 H (𝓖 .A) = givenOf 𝓤 H 𝓜 𝓖 in
     routine-meets 𝓤 H 𝓜 𝓖 𝓡 self.signature (self.spec 𝓤 H (𝓖 .A) (𝓜 .mem) (𝓡 .run)) code.env key.name code.function (code.unfolded 𝓤 H 𝓜 𝓡)
-    (contract 𝓤 H (𝓖 .A) W (𝓜 .mem) (𝓡 .run)) fresh′.name fresh′.routine code.calls-engine·reset·fresh (fresh-met.met 𝓤 H 𝓜 𝓖 𝓡)
+    (contract 𝓤 H (𝓖 .A) W (𝓜 .mem) (𝓡 .run)) fresh′.name fresh′.routine code.calls-drives·reset·fresh (fresh-met.met 𝓤 H 𝓜 𝓖 𝓡)
     (λ 𝓣 met. lent-meets this 𝓤 H (𝓖 .A) W (self.clauses 𝓤 H (𝓖 .A) (𝓜 .mem) (𝓡 .run)) 𝓣 code.function
     (walk 𝓤 H (𝓖 .A) W (𝓜 .mem) (𝓡 .run) (𝓣 .C) (𝓣 .Λ) (fmOf 𝓤 H (W .laws) 𝓣) met))

@@ -18,9 +18,9 @@ use Rattle.model.proofs.record.Answer as answer
 use Rattle.model.proofs.record.Answer.Laws as answer′
 use Rattle.model.proofs.record.Outcome as outcome
 use Rattle.model.proofs.record.Outcome.Laws as outcome′
-use Rattle.engine.proofs.reset.reset as reset
-use Rattle.engine.proofs.reset.reset.Symbol as reset′
-use Rattle.engine.proofs.reset.reset.Met as reset-met
+use Rattle.drives.proofs.reset.reset as reset
+use Rattle.drives.proofs.reset.reset.Symbol as reset′
+use Rattle.drives.proofs.reset.reset.Met as reset-met
 use Rattle.firmware.proofs.Outcomes.{controller-is, answer-is, outcome-typed, controller-typed, answer-typed}
 use Rattle.firmware.proofs.lanthewg_reset as self
 use Rattle.firmware.proofs.lanthewg_reset.Key as key
@@ -85,6 +85,6 @@ unfolding code.routine
 lanthewg-reset-spec 𝓤 H 𝓜 𝓖 𝓡 =
     let W : Given 𝓤 H (𝓖 .A) = givenOf 𝓤 H 𝓜 𝓖 in
     routine-meets 𝓤 H 𝓜 𝓖 𝓡 self.signature (self.spec 𝓤 H (𝓖 .A) (𝓜 .mem) (𝓡 .run)) code.env key.name code.function (code.unfolded 𝓤 H 𝓜 𝓡)
-    (contract 𝓤 H (𝓖 .A) W (𝓜 .mem) (𝓡 .run)) reset′.name reset′.routine code.calls-engine·reset·reset (reset-met.met 𝓤 H 𝓜 𝓖 𝓡)
+    (contract 𝓤 H (𝓖 .A) W (𝓜 .mem) (𝓡 .run)) reset′.name reset′.routine code.calls-drives·reset·reset (reset-met.met 𝓤 H 𝓜 𝓖 𝓡)
     (λ 𝓣 met. lent-meets this 𝓤 H (𝓖 .A) W (self.clauses 𝓤 H (𝓖 .A) (𝓜 .mem) (𝓡 .run)) 𝓣 code.function
     (walk 𝓤 H (𝓖 .A) W (𝓜 .mem) (𝓡 .run) (𝓣 .C) (𝓣 .Λ) (fmOf 𝓤 H (W .laws) 𝓣) met))

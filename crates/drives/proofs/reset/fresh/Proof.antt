@@ -1,7 +1,7 @@
 use borrow.Author.Needs.{needs}
-use Rattle.engine.proofs.Resets.{fresh-of}
-use Rattle.engine.proofs.reset.fresh.Statement.{statement}
-use Rattle.engine.proofs.reset.fresh.Tie as tie
+use Rattle.drives.proofs.Resets.{fresh-of}
+use Rattle.drives.proofs.reset.fresh.Statement.{statement}
+use Rattle.drives.proofs.reset.fresh.Tie as tie
 
 load-requires : tie.Need-load-requires
 load-requires c κs = search needs

@@ -1,7 +1,7 @@
 use Rattle.model.specs.Engine.{resetOf}
 use borrow.Author.Needs.{needs}
-use Rattle.engine.proofs.reset.reset.Statement.{statement}
-use Rattle.engine.proofs.reset.reset.Tie as tie
+use Rattle.drives.proofs.reset.reset.Statement.{statement}
+use Rattle.drives.proofs.reset.reset.Tie as tie
 
 fresh-requires : tie.Need-fresh-requires
 fresh-requires c κs = search needs

@@ -1,5 +1,5 @@
 // Reset, and a fresh controller.
-use drives::load::load;
+use crate::load::load;
 use endings::ending::bare_answer;
 use model::record::Controller;
 use model::record::Outcome;

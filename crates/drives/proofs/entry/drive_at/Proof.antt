@@ -4,8 +4,8 @@ use lib.ListN.{length, getD}
 use Rattle.base.proofs.Parts.{getD-any}
 use Rattle.model.specs.Record.{blankDrive}
 use borrow.Author.Needs.{needs}
-use Rattle.engine.proofs.run.drive_at.Statement.{statement}
-use Rattle.engine.proofs.run.drive_at.Tie as tie
+use Rattle.drives.proofs.entry.drive_at.Statement.{statement}
+use Rattle.drives.proofs.entry.drive_at.Tie as tie
 
 array-copy-out-result : tie.Need-array-copy-out-result
 array-copy-out-result c = search needs
