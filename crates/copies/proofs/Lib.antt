@@ -1,3 +1,4 @@
 pub mod Ends
 pub mod Judges
 pub mod Obeys
+pub mod Runs

@@ -2,3 +2,4 @@
 pub mod copy;
 pub mod judge;
 pub mod obey;
+pub mod run;

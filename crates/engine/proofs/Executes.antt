@@ -19,14 +19,13 @@ use Rattle.model.specs.declared.record.Ending.{Ending}
 use Rattle.model.specs.declared.record.Outcome.{Outcome}
 use Rattle.model.specs.Block.{blockOf, isCopy, blockLength, isWhole, copyOf}
 use Rattle.model.specs.Record.{blankDrive, driveAt, bareAnswer, Effect}
-use Rattle.model.specs.Copies.{CopyEffect}
-use Rattle.model.specs.Engine.{obey, imageOf, Result, left, onDrive, obeyCopy, leftByCopy, onDrives, execute}
+use Rattle.model.specs.Engine.{obey, imageOf, Result, left, onDrive, execute}
 use Rattle.model.specs.Premises.{WellFormed}
 use Rattle.model.proofs.engine.Blocks.{copies, of-one-drive, not-whole, whole-six}
 use Rattle.model.proofs.engine.CopyLeaves.{from-copy, to-copy}
 use Rattle.endings.specs.Left.{Left, leftNow, leftBy}
-use Rattle.copies.specs.Ready.{TwoDrives}
-use Rattle.engine.specs.Results.{resultNow, Lent, lentNow, lentBy, obeyed, IsCopy, CopyRan}
+use Rattle.copies.specs.Runs.{IsCopy, CopyRan}
+use Rattle.engine.specs.Results.{resultNow, Lent, lentNow, lentBy, obeyed}
 
 -- ---- the fields of a block
 pub block-formed : (bytes : List ℕ) (b : Block) → b ≡ blockOf bytes → ((i : ℕ) → byte bytes i < 256) → WellFormed b
@@ -71,17 +70,6 @@ copy-formed bytes k e copy below =
     six a b c d e f (suc (suc (suc (suc (suc zero))))) = f
     six a b c d e f (suc (suc (suc (suc (suc (suc i)))))) = omega arith
 
--- the entries of its drives, one where it is one drive
-pub two-drives : (drives : List Drive) (k : CopyBlock) (source target : Drive) → IsCopy k → source ≡ getD drives (k .from .drive) blankDrive
-    → target ≡ getD drives (k .to .drive) blankDrive → TwoDrives k source target
-two-drives drives k source target is es et = record {
-  from = is .from;
-  to = is .to;
-  from-copy = is .from-copy;
-  to-copy = is .to-copy;
-  one-drive = λ e. es ∙ ap (λ (d : ℕ). getD drives d blankDrive) e ∙ sym et;
-}
-
 longer : (copy : Bool) (n : ℕ) → n ≡ pick copy 10 6 → 1 < n
 unfolding pick
 longer true n e = omega (arith, e)
@@ -121,14 +109,6 @@ module _ (c : Controller) (area : List ℕ) (images : List (List ℕ)) where
       ≡ onDrive b given c area images
   unfolding onDrive driveAt obeyed
   command-left b given entry ee l h drives ed = rw (← ee) (left-put (b .drive) _ drives l h ed)
-
--- of a Copy
-pub copy-left : (c : Controller) (k : CopyBlock) (images : List (List ℕ)) (source target : Drive) → source ≡ getD (c .drives) (k .from .drive) blankDrive
-    → target ≡ getD (c .drives) (k .to .drive) blankDrive
-    → (e : CopyEffect) → e ≡ obeyCopy k source target (c .buffer) images → (drives : List Drive) → drives ≡ set (c .drives) (k .from .drive) (e .ending .entry)
-    → CopyRan k c images (record { controller = record { buffer = e .buffer; drives = drives }; answer = e .ending .answer }) (e .images)
-unfolding onDrives leftByCopy driveAt
-copy-left c k images source target es et e h drives ed area = rw (← es, ← et, ← h, ed)
 
 -- ---- the call
 module _ (c : Controller) (block given area : List ℕ) (images : List (List ℕ)) {whole : Bool} (ew : whole ≡ isWhole block) where

@@ -1,17 +1,13 @@
 -- All that a call has left, as a contract sees it.
 use Prim.Native.Nat.{ℕ}
-use mathlib.Core.Path.{_≡_}
 use mathlib.Core.List.{List}
 use lib.ListN.{length, set}
 use Rattle.model.specs.declared.block.Block.{Block}
-use Rattle.model.specs.declared.block.CopyBlock.{CopyBlock}
 use Rattle.model.specs.declared.record.Drive.{Drive}
-use Rattle.model.specs.declared.record.Controller.{Controller}
 use Rattle.model.specs.declared.record.Ending.{Ending}
 use Rattle.model.specs.declared.record.Outcome.{Outcome}
 use Rattle.model.specs.Record.{Effect, areaAfter}
-use Rattle.model.specs.Engine.{obey, Result, imageOf, onDrives}
-use Rattle.model.specs.Premises.{WellFormed}
+use Rattle.model.specs.Engine.{obey, Result, imageOf}
 
 abbrev pub resultNow : Outcome → (area : List ℕ) → (images : List (List ℕ)) → Result
 resultNow outcome area images = record { outcome = outcome; area = area; images = images }
@@ -34,14 +30,3 @@ lentBy drive e area images =
 unfoldable pub obeyed : Block → (given : List ℕ) → Drive → (buffer area : List ℕ) → (images : List (List ℕ)) → Lent
 obeyed b given entry buffer area images =
     lentBy (b .drive) (obey b given (length area) entry buffer (imageOf (b .drive) images)) area images
-
--- The block of a Copy, taken apart.
-pub record IsCopy (k : CopyBlock) : Type 0 where
-  pub from : WellFormed (k .from)
-  pub to : WellFormed (k .to)
-  pub from-copy : k .from .opcode ≡ 0x20
-  pub to-copy : k .to .opcode ≡ 0x20
-
--- What a Copy leaves, whatever the data area.
-abbrev pub CopyRan : CopyBlock → Controller → (images : List (List ℕ)) → Outcome → (after : List (List ℕ)) → Type 0
-CopyRan k c images outcome after = (area : List ℕ) → resultNow outcome area after ≡ onDrives k c area images

@@ -3,12 +3,11 @@ use checks::block::decode;
 use checks::block::decode_copy;
 use checks::block::is_copy;
 use checks::block::is_whole;
-use copies::obey::obey_copy;
+use copies::run::run_copy;
 use dispatch::obey::obey;
 use drives::entry::drive_at;
 use endings::ending::bare_answer;
 use model::block::Block;
-use model::block::CopyBlock;
 use model::record::Answer;
 use model::record::Controller;
 use model::record::Drive;
@@ -21,7 +20,7 @@ ghost use mathlib.Core.Bool.{true};
 ghost use Rattle.model.specs.Block.{blockOf, isWhole};
 ghost use Rattle.model.specs.Engine.{imagesOf, execute};
 ghost use Rattle.model.specs.Premises.{WellFormed};
-ghost use Rattle.engine.specs.Results.{lentNow, obeyed, resultNow, IsCopy, CopyRan};
+ghost use Rattle.engine.specs.Results.{lentNow, obeyed, resultNow};
 
 fn with_drive(drives: [Drive; 4], drive: u8, entry: Drive) -> [Drive; 4]
     requires { ⌜ drive < 4 ⌝ }
@@ -66,33 +65,6 @@ fn on_images(
 pub struct Ran {
     pub drives: [Drive; 4],
     pub answer: Answer,
-}
-
-// A Copy, on the entries of its two drives: the data area is not touched.
-fn run_copy(
-    drives: [Drive; 4],
-    k: CopyBlock,
-    buffer: &mut [u8],
-    image0: &mut [u8],
-    image1: &mut [u8],
-    image2: &mut [u8],
-    image3: &mut [u8],
-) -> Ending
-    requires { ⌜ IsCopy k × (length (now buffer) ≡ 512) ⌝ }
-    ensures { λ r. ⌜ CopyRan k (record { buffer = now (buffer .entry); drives = drives })
-        (imagesOf (now (image0 .entry)) (now (image1 .entry)) (now (image2 .entry)) (now (image3 .entry)))
-        (record { controller = record { buffer = now (buffer .exit); drives = set drives (k .from .drive) (r .entry) }; answer = r .answer })
-        (imagesOf (now (image0 .exit)) (now (image1 .exit)) (now (image2 .exit)) (now (image3 .exit))) ⌝ }
-{
-    let from = k.from;
-    let to = k.to;
-    if to.drive == from.drive {
-        let entry = drive_at(drives, to.drive);
-        return obey_copy(entry, entry, k, buffer, image0, image1, image2, image3);
-    }
-    let source = drive_at(drives, from.drive);
-    let target = drive_at(drives, to.drive);
-    obey_copy(source, target, k, buffer, image0, image1, image2, image3)
 }
 
 // A whole block: what it leaves of the drive in its byte 1, which is a Copy's source, with the answer.

@@ -1,10 +1,10 @@
 use mathlib.Core.Path.{refl, ap, _∙_}
 use lib.ListN.{getD}
 use Rattle.model.specs.Record.{blankDrive}
-use Rattle.engine.proofs.Executes.{two-drives, copy-left}
+use Rattle.copies.proofs.Runs.{two-drives, copy-left}
 use borrow.Author.Needs.{needs}
-use Rattle.engine.proofs.run.run_copy.Statement.{statement}
-use Rattle.engine.proofs.run.run_copy.Tie as tie
+use Rattle.copies.proofs.run.run_copy.Statement.{statement}
+use Rattle.copies.proofs.run.run_copy.Tie as tie
 
 drive-at-requires : tie.Need-drive-at-requires
 drive-at-requires c κs = search needs
