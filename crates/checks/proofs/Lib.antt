@@ -1,4 +1,3 @@
-pub mod Rows
 pub mod Orders
 pub mod Blocks
 pub mod Views

@@ -22,8 +22,8 @@ use Rattle.model.specs.declared.verdict.View.{View}
 use Rattle.model.specs.Block.{countOf}
 use Rattle.model.specs.Table.{Check, FillBit, Counted, SparedWhole, TableRow, applies, rowFor}
 use Rattle.model.specs.Checks.{judged, isUnknown, controlWrong, withParams, pastEnd, notSpared, sizeIn, bytesOf, reachOf, hitsOf, inOrder, judge}
-use Rattle.checks.specs.declared.table.Row.{Row}
-use Rattle.checks.specs.Rows.{has, bitOf, Says}
+use Rattle.table.specs.declared.rows.Row.{Row}
+use Rattle.table.specs.Rows.{has, bitOf, Says}
 use Rattle.checks.specs.Legal.{Legal}
 
 -- ---- a control byte, by its seven low bits

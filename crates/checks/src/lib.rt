@@ -1,4 +1,3 @@
-// From a block to the verdict of the checks: its fields, its row of the table, the order of checks.
+// From a block to the verdict of the checks: its fields, the order of checks.
 pub mod block;
 pub mod order;
-pub mod table;

@@ -1,17 +1,5 @@
 // The order of checks.
 use crate::block::count_of;
-use crate::table::ADDRESS;
-use crate::table::CONTROL;
-use crate::table::COUNTED;
-use crate::table::FILL_BIT;
-use crate::table::HARD_ONLY;
-use crate::table::INTERLEAVE;
-use crate::table::PARAMETERS;
-use crate::table::PRESENT;
-use crate::table::Row;
-use crate::table::SETTLED;
-use crate::table::SPARED_WHOLE;
-use crate::table::has;
 use base::logic::both;
 use base::logic::either;
 use geometry::config::Setting;
@@ -24,6 +12,18 @@ use model::table::Data;
 use model::verdict::Hits;
 use model::verdict::Verdict;
 use model::verdict::View;
+use table::rows::ADDRESS;
+use table::rows::CONTROL;
+use table::rows::COUNTED;
+use table::rows::FILL_BIT;
+use table::rows::HARD_ONLY;
+use table::rows::INTERLEAVE;
+use table::rows::PARAMETERS;
+use table::rows::PRESENT;
+use table::rows::Row;
+use table::rows::SETTLED;
+use table::rows::SPARED_WHOLE;
+use table::rows::has;
 ghost use mathlib.Core.Path.{_≡_};
 ghost use Prim.Native.Nat.{_≤_, _<_};
 ghost use Rattle.geometry.specs.Params.{Within};
@@ -31,7 +31,7 @@ ghost use Rattle.geometry.specs.Config.{isValid};
 ghost use Rattle.model.specs.Table.{rowFor};
 ghost use Rattle.model.specs.Checks.{judged, isUnknown, controlWrong, blockWrong, withParams, interleaveWrong, pastEnd, notSpared, sizeIn, bytesOf, reachOf, hitsOf, inOrder, judge};
 ghost use Rattle.model.specs.Premises.{addressLimit, WellFormed};
-ghost use Rattle.checks.specs.Rows.{Says};
+ghost use Rattle.table.specs.Rows.{Says};
 ghost use Rattle.checks.specs.Legal.{Legal};
 
 fn is_unknown(command: Command) -> bool

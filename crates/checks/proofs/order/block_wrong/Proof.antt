@@ -1,7 +1,7 @@
 use borrow.Author.Needs.{needs}
 use Rattle.model.specs.Table.{HardOnly, Control}
 use Rattle.model.specs.Checks.{blockWrong}
-use Rattle.checks.specs.Rows.{bitOf}
+use Rattle.table.specs.Rows.{bitOf}
 use Rattle.checks.proofs.Orders.{checked, control-checked, any-of}
 use Rattle.checks.proofs.order.block_wrong.Statement.{statement}
 use Rattle.checks.proofs.order.block_wrong.Tie as tie

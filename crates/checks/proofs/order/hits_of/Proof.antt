@@ -3,7 +3,7 @@ use mathlib.Core.Path.{refl, ap}
 use mathlib.Core.Bool.{not}
 use Rattle.model.specs.Table.{Present, Parameters, Interleave, Address, Settled, rowFor}
 use Rattle.model.specs.Checks.{blockWrong, hitsOf}
-use Rattle.checks.specs.Rows.{bitOf}
+use Rattle.table.specs.Rows.{bitOf}
 use Rattle.checks.proofs.Orders.{checked, held-checked, unknown-checked, bytes-checked, with-pending, hits-same}
 use Rattle.checks.proofs.order.hits_of.Statement.{statement}
 use Rattle.checks.proofs.order.hits_of.Tie as tie

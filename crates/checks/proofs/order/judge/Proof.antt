@@ -1,5 +1,5 @@
 use borrow.Author.Needs.{needs}
-use Rattle.checks.specs.Rows.{bitOf}
+use Rattle.table.specs.Rows.{bitOf}
 use Rattle.checks.proofs.Orders.{judge-checked}
 use Rattle.checks.proofs.order.judge.Statement.{statement}
 use Rattle.checks.proofs.order.judge.Tie as tie

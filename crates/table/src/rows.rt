@@ -9,7 +9,7 @@ use model::table::TrackCommand;
 ghost use mathlib.Core.Path.{_≡_};
 ghost use Prim.Native.Nat.{_<_};
 ghost use Rattle.model.specs.Table.{rowFor};
-ghost use Rattle.checks.specs.Rows.{has, Says};
+ghost use Rattle.table.specs.Rows.{has, Says};
 
 // The checks that apply are bits, since a small row is cheap to index.
 

@@ -1,8 +1,8 @@
 use borrow.Author.Needs.{needs}
-use Rattle.checks.specs.Rows.{bitOf}
-use Rattle.checks.proofs.Rows.{rows, rowFrom, bitsOf, rows-read, row-copy, rows-past}
-use Rattle.checks.proofs.table.row_of.Statement.{statement}
-use Rattle.checks.proofs.table.row_of.Tie as tie
+use Rattle.table.specs.Rows.{bitOf}
+use Rattle.table.proofs.Bits.{rows, rowFrom, bitsOf, rows-read, row-copy, rows-past}
+use Rattle.table.proofs.rows.row_of.Statement.{statement}
+use Rattle.table.proofs.rows.row_of.Tie as tie
 
 mul-result : tie.Need-mul-result
 mul-result c = search needs

@@ -9,8 +9,8 @@ use lib.ListN.{length, take, drop, getD}
 use Rattle.model.specs.Table.{Check, HardOnly, Control, FillBit, Present, Parameters, Interleave, Address, Counted, Settled, SparedWhole, checkNumber, isAmong, TableRow, applies, row, addressChecks, table, unknown, rowFor}
 use Rattle.model.specs.declared.table.Command.the-variants.{Copy}
 use Rattle.model.specs.declared.table.Data.the-variants.{Nothing}
-use Rattle.checks.specs.declared.table.Row.{Row}
-use Rattle.checks.specs.Rows.{has, bitOf, Says}
+use Rattle.table.specs.declared.rows.Row.{Row}
+use Rattle.table.specs.Rows.{has, bitOf, Says}
 
 -- An element of what each element stands for: where there is one, or with a default that stands for the default.
 row-read : {A B : Type 0} (f : A → B) (l : List A) (i : ℕ) (d₁ : A) (d₂ : B) → i < length l → f (getD l i d₁) ≡ getD (map f l) i d₂

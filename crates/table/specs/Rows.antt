@@ -4,7 +4,7 @@ use mathlib.Core.Path.{_≡_}
 use mathlib.Core.Bool.{Bool}
 use lib.Dec.{eqb}
 use Rattle.model.specs.Table.{Check, HardOnly, Control, FillBit, Present, Parameters, Interleave, Address, Counted, Settled, SparedWhole, TableRow, applies}
-use Rattle.checks.specs.declared.table.Row.{Row}
+use Rattle.table.specs.declared.rows.Row.{Row}
 
 unfoldable pub has : (checks bit : ℕ) → Bool
 has checks bit = eqb (checks / bit % 2) 1

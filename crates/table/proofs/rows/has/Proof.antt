@@ -1,8 +1,8 @@
-use Rattle.checks.specs.Rows.{has}
+use Rattle.table.specs.Rows.{has}
 use mathlib.Core.Path.{refl}
 use borrow.Author.Needs.{needs}
-use Rattle.checks.proofs.table.has.Statement.{statement}
-use Rattle.checks.proofs.table.has.Tie as tie
+use Rattle.table.proofs.rows.has.Statement.{statement}
+use Rattle.table.proofs.rows.has.Tie as tie
 
 div-result : tie.Need-div-result
 div-result c = search needs

@@ -1,0 +1,2 @@
+// The constant table of the commands.
+pub mod rows;
