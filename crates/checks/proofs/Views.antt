@@ -19,7 +19,7 @@ use Rattle.model.specs.Record.{settingIn}
 use Rattle.model.specs.Engine.{viewOf}
 use Rattle.model.specs.Premises.{addressLimit}
 use Rattle.model.proofs.engine.Judged.{fault-in, fault-past, fault-none}
-use Rattle.checks.specs.Legal.{Legal, Sized}
+use Rattle.checks.specs.Legal.{Legal, AtLeast128}
 
 -- ---- a drive's setting
 legal-pick : (known : Bool) (s : Setting) → Legal s → Legal (pick known s Invalid)
@@ -27,19 +27,19 @@ unfolding pick
 legal-pick true s l = l
 legal-pick false s l = λ p e. absurd (let z : _≡_ {A = ℕ} 0 1 = cc in omega arith)
 
-sized-pick : (known : Bool) (s : Setting) → Sized s → Sized (pick known s Invalid)
+at-least-128-pick : (known : Bool) (s : Setting) → AtLeast128 s → AtLeast128 (pick known s Invalid)
 unfolding pick
-sized-pick true s l = l
-sized-pick false s l = λ p e. absurd (let z : _≡_ {A = ℕ} 0 1 = cc in omega arith)
+at-least-128-pick true s l = l
+at-least-128-pick false s l = λ p e. absurd (let z : _≡_ {A = ℕ} 0 1 = cc in omega arith)
 
 module _ (medium : Medium) (entry : Drive) (image : ℕ) (v : View) (is : v ≡ viewOf medium entry image) where
   pub view-legal : Legal (v .setting)
   unfolding viewOf settingIn
   view-legal = rw is (legal-pick (entry .known) _ (λ p e. setting-within medium _ _ p e .0))
 
-  pub view-sized : Sized (v .setting)
+  pub view-at-least-128 : AtLeast128 (v .setting)
   unfolding viewOf settingIn
-  view-sized = rw is (sized-pick (entry .known) _ (λ p e. setting-some medium _ _ p e))
+  view-at-least-128 = rw is (at-least-128-pick (entry .known) _ (λ p e. setting-some medium _ _ p e))
 
 -- ---- the codes of a drive's row are below 80h, and all go with the block's address
 pub fault-over : (b : Block) (reach : ℕ) (v : View) (given area : ℕ) (verdict : Verdict) → verdict ≡ judgeOver b reach v given area

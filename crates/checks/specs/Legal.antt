@@ -10,5 +10,5 @@ abbrev pub Legal : Setting → Type 0
 Legal setting = (p : Params) → setting ≡ Valid p → Within p
 
 -- No sector is shorter than a floppy's, so that a Copy fills at most 1,024.
-abbrev pub Sized : Setting → Type 0
-Sized setting = (p : Params) → setting ≡ Valid p → 128 ≤ p .size
+abbrev pub AtLeast128 : Setting → Type 0
+AtLeast128 setting = (p : Params) → setting ≡ Valid p → 128 ≤ p .size

@@ -162,7 +162,7 @@ fn reach_of(counted: bool, b: Block) -> usize
 
 // The checks that hit.
 fn hits_of(row: Row, b: Block, reach: usize, view: View, given: usize, area: usize) -> Hits
-    requires { ⌜ Says row (rowFor (b .opcode)) × Legal (view .setting) × WellFormed b × (reach ≤ 1024) ⌝ }
+    requires { ⌜ Says row (rowFor (b .opcode)) × Legal (view .setting) × WellFormed b × (reach ≤ 256) ⌝ }
     ensures { λ r. ⌜ r ≡ hitsOf (rowFor (b .opcode)) b reach view given area ⌝ }
 {
     let command = row.command;

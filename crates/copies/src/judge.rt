@@ -20,7 +20,7 @@ ghost use mathlib.Core.List.{[], _∷_};
 ghost use Rattle.model.specs.Checks.{on, judged, hitsOf, judgeOver, fillingOf, shares, firstOf, judgeCopy};
 ghost use Rattle.model.specs.Table.{rowFor};
 ghost use Rattle.model.specs.Premises.{WellFormed};
-ghost use Rattle.checks.specs.Legal.{Legal, Sized};
+ghost use Rattle.checks.specs.Legal.{Legal, AtLeast128};
 
 // How many sectors of dd bytes n sectors of ds bytes fill, the last perhaps in part.
 fn filled_by(n: usize, ds: usize, dd: usize) -> usize
@@ -32,7 +32,7 @@ fn filled_by(n: usize, ds: usize, dd: usize) -> usize
 
 // The sectors that n source sectors fill: none where a drive has no parameters, which is 0Ah.
 fn filling_of(n: usize, from: Setting, to: Setting) -> usize
-    requires { ⌜ (n ≤ 256) × Legal from × Legal to × Sized to ⌝ }
+    requires { ⌜ (n ≤ 256) × Legal from × Legal to × AtLeast128 to ⌝ }
     ensures { λ r. ⌜ (r ≡ fillingOf n from to) × (r ≤ 1024) ⌝ }
 {
     match from {
@@ -112,7 +112,7 @@ fn first_of(first: Judgement, second: Judgement) -> Judgement
 }
 
 pub fn judge_copy(k: CopyBlock, from: View, to: View) -> Judgement
-    requires { ⌜ WellFormed (k .from) × WellFormed (k .to) × Legal (from .setting) × Legal (to .setting) × Sized (to .setting)
+    requires { ⌜ WellFormed (k .from) × WellFormed (k .to) × Legal (from .setting) × Legal (to .setting) × AtLeast128 (to .setting)
         × (k .from .opcode ≡ 0x20) × (k .to .opcode ≡ 0x20) ⌝ }
     ensures { λ r. ⌜ r ≡ judgeCopy k from to ⌝ }
 {

@@ -1,6 +1,6 @@
 use Prim.Native.Nat.{_<_}
 use native.Mathlib.Omega.{arith}
-use Rattle.checks.proofs.Views.{view-legal, view-sized}
+use Rattle.checks.proofs.Views.{view-legal, view-at-least-128}
 use Rattle.copies.proofs.Obeys.{copy-below, copyable, copy-refused, copy-failed, copy-carried}
 use borrow.Author.Needs.{needs}
 use Rattle.copies.proofs.obey.obey_copy.Statement.{statement}
@@ -17,7 +17,7 @@ judge-copy-requires c κs =
     let a = c .before .before .before .before .before .before .before .before .before .before .before .before .before .before .before .before .before in
     let v = c .before .before .before .before .before .view-on .ensures in
     let w = c .view-on2 .ensures in
-    (a .pre .0 .from, a .pre .0 .to, view-legal _ _ _ _ v, view-legal _ _ _ _ w, view-sized _ _ _ _ w, a .pre .0 .from-copy, a .pre .0 .to-copy)
+    (a .pre .0 .from, a .pre .0 .to, view-legal _ _ _ _ v, view-legal _ _ _ _ w, view-at-least-128 _ _ _ _ w, a .pre .0 .from-copy, a .pre .0 .to-copy)
 
 enum-known-verdict : tie.Need-enum-known-verdict
 enum-known-verdict c = search needs
