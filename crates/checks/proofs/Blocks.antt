@@ -1,7 +1,7 @@
 -- Laws of a block's bytes: how many there are, and Copy's two drives.
 use mathlib.Core.Path.{_≡_, refl, sym, ap, _∙_}
 use mathlib.Core.Bool.{Bool, true, false, not}
-use mathlib.Core.List.{List, []}
+use mathlib.Core.List.{List}
 use Prim.{⊥}
 use Prim.Native.Nat.{ℕ}
 use lib.ListN.{length}

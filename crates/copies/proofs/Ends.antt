@@ -1,13 +1,12 @@
 -- How a Copy ends, and what it leaves, by what was copied.
-use mathlib.Core.Path.{_≡_, refl, sym, ap, _∙_}
+use mathlib.Core.Path.{_≡_, sym, _∙_}
 use mathlib.Core.List.{List, _++_}
-use Prim.Native.Nat.{ℕ, _+_, _-_, _*_, _≤_, _<_}
+use Prim.Native.Nat.{ℕ, _+_, _-_, _≤_, _<_}
 use native.Mathlib.Omega.{arith}
 use lib.ListN.{length, replicate}
-use Rattle.base.specs.Part.{splice}
 use Rattle.geometry.specs.declared.params.Lba.{Lba}
 use Rattle.geometry.specs.declared.params.Params.{Params}
-use Rattle.geometry.specs.Params.{addressCount, further}
+use Rattle.geometry.specs.Params.{further}
 use Rattle.geometry.proofs.Sizes.{sectors-most}
 use Rattle.sectors.proofs.Laws.{reading-handed, writing-taken}
 use Rattle.copying.specs.declared.route.Route.{Route}
@@ -15,7 +14,7 @@ use Rattle.copying.specs.declared.route.End.{End}
 use Rattle.copying.specs.declared.route.End.the-variants.{Going, SourceFault, TargetFault, Short}
 use Rattle.copying.specs.declared.route.Copied.{Copied}
 use Rattle.copying.specs.Images.{imageOf}
-use Rattle.copying.specs.Copying.{Copying, copied}
+use Rattle.copying.specs.Copying.{copied}
 use Rattle.copying.specs.Listwise.{readAll, sectorsFor, writeAll, Fitting}
 use Rattle.copying.specs.Promises.{CopyReady, CopiedBy}
 use Rattle.copying.proofs.Laws.{copied-most, copied-read, EndedBy, going, by-source, by-target, short, copied-ended, short-some}
@@ -25,7 +24,7 @@ use Rattle.model.specs.declared.record.Ending.{Ending}
 use Rattle.model.specs.Block.{countOf}
 use Rattle.model.specs.Record.{failed, good}
 use Rattle.model.specs.Copies.{copyEffect, routeOf, copyEnding, copyLeft}
-use Rattle.model.specs.Premises.{addressLimit, OnDrives}
+use Rattle.model.specs.Premises.{OnDrives}
 use Rattle.model.proofs.engine.Checked.{count-some}
 use Rattle.copies.specs.Ends.{CanEnd}
 

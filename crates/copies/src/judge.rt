@@ -14,7 +14,7 @@ use model::verdict::Judgement;
 use model::verdict::Verdict;
 use model::verdict::View;
 ghost use mathlib.Core.Path.{_≡_};
-ghost use Prim.Native.Nat.{_≤_, _<_};
+ghost use Prim.Native.Nat.{_≤_};
 ghost use Rattle.copying.specs.Listwise.{filledBy};
 ghost use mathlib.Core.List.{[], _∷_};
 ghost use Rattle.model.specs.Checks.{on, judged, hitsOf, judgeOver, fillingOf, shares, firstOf, judgeCopy};

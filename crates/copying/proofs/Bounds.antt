@@ -2,7 +2,7 @@
 use mathlib.Core.Path.{_≡_, refl, sym, ap, _∙_}
 use mathlib.Core.Bool.{Bool, true, false}
 use mathlib.Core.List.{List, _++_}
-use Prim.Native.Nat.{ℕ, _*_, _/_, _%_, _≤_, _<_, min}
+use Prim.Native.Nat.{ℕ, _*_, _/_, _%_, _≤_, _<_}
 use native.Mathlib.Omega.{arith}
 use native.Mathlib.Nat.{min-le-left}
 use native.Mathlib.Decide.{ℕ-discrete}
@@ -20,7 +20,7 @@ use Rattle.copying.specs.Images.{imageOf}
 use Rattle.copying.specs.Copying.{Copying, copied}
 use Rattle.copying.specs.Listwise.{filledBy, readAll, sectorsFor, writeAll, endOf, readOf, copiedAtOnce, Fitting}
 use Rattle.copying.proofs.Counts.{full-quotient, filled-most, filled-some}
-use Rattle.copying.proofs.Sources.{IsRead, is-read, all-for, some-for}
+use Rattle.copying.proofs.Sources.{is-read, all-for, some-for}
 use Rattle.copying.proofs.AtOnce.{copied-listwise}
 
 -- what ended it, by the Read's code and the Write's

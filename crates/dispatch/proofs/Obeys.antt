@@ -1,13 +1,9 @@
 -- What a command leaves on its drive, by the verdict of the order of checks.
 use mathlib.Core.Path.{_≡_, refl, sym, ap, _∙_}
-use mathlib.Core.Bool.{Bool, true, false}
 use mathlib.Core.List.{List}
 use Prim.Native.Nat.{ℕ, _<_}
-use native.Mathlib.Omega.{arith}
 use lib.ListN.{length}
-use Rattle.base.specs.Pick.{pick}
 use Rattle.geometry.specs.declared.params.Lba.{Lba}
-use Rattle.geometry.specs.declared.config.Setting.{Setting}
 use Rattle.geometry.specs.Medium.{mediumOf}
 use Rattle.model.specs.declared.block.Block.{Block}
 use Rattle.model.specs.declared.table.Command.{Command}
@@ -18,7 +14,7 @@ use Rattle.model.specs.declared.verdict.Verdict.{Verdict}
 use Rattle.model.specs.declared.verdict.Verdict.the-variants.{Refused, Faulty, Passed}
 use Rattle.model.specs.Table.{rowFor}
 use Rattle.model.specs.Checks.{judge}
-use Rattle.model.specs.Record.{settingIn, refused, failed, unless, unlessNamed}
+use Rattle.model.specs.Record.{settingIn, refused, failed, unlessNamed}
 use Rattle.model.specs.Commands.{carryOut}
 use Rattle.model.specs.Engine.{viewOf, obey}
 use Rattle.model.specs.Premises.{addressLimit, WellFormed}

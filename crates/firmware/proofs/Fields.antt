@@ -6,7 +6,6 @@ use mir.Val.{Val}
 use prog.Wp.{Heap}
 use ghost.Atoms.{Atoms}
 use types.Kit.{Given}
-use denote.RattleType.{RattleType}
 use denote.Laws.{Is, Typed, Makes}
 use denote.Builtin.{u8}
 use denote.Array.{Array, array-makes}

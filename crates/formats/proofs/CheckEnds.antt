@@ -20,7 +20,7 @@ use Rattle.model.specs.declared.block.Block.{Block}
 use Rattle.model.specs.declared.record.Drive.{Drive}
 use Rattle.model.specs.declared.record.Ending.{Ending}
 use Rattle.model.specs.declared.verdict.Verdict.the-variants.{Faulty}
-use Rattle.model.specs.Record.{failed, good, unless, unlessNamed}
+use Rattle.model.specs.Record.{failed, good, unlessNamed}
 use Rattle.model.specs.Commands.{checkTests, checkTrack}
 use Rattle.model.proofs.engine.Judged.{judged-hit, judged-on, judged-none}
 use Rattle.formats.proofs.Makings.{layout-lent}

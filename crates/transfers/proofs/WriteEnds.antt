@@ -9,7 +9,7 @@ use Rattle.geometry.specs.declared.params.Lba.{Lba}
 use Rattle.sectors.specs.Transfer.{begun, writing}
 use Rattle.sectors.specs.declared.transfer.Done.{Done}
 use Rattle.sectors.specs.Promises.{HasWritten}
-use Rattle.sectors.proofs.Laws.{Taken, writing-taken}
+use Rattle.sectors.proofs.Laws.{writing-taken}
 use Rattle.model.specs.declared.block.Block.{Block}
 use Rattle.model.specs.declared.record.Drive.{Drive}
 use Rattle.model.specs.declared.record.Ending.{Ending}

@@ -2,7 +2,7 @@
 -- copied, and the buffer is lent where it lies, for a lifetime ν that is the call's own. Both are passed to `execute_on` with the other
 -- parameters. Once the call is over ν ends and the buffer is back, with what the call left in it; the drives that come back are stored in their
 -- place, and the answer is the result. All that is known of `execute_on` is its contract, which says the same of drives and a buffer.
-use Rattle.walks.proofs.Kit.{_≡_, refl, ℕ, _+_, [], _∷_, URA, fullShare, w8, named, Val, vptr, vcons, vnil, SProp, id⊢, GName, fat, flft}
+use Rattle.walks.proofs.Kit.{_≡_, refl, ℕ, _+_, [], _∷_, URA, fullShare, w8, named, vptr, vcons, vnil, SProp, id⊢, GName, fat, flft}
 use Rattle.walks.proofs.Kit.{Memory, Routine, Heap, Calls, Loops, WpFn, Atoms, Fun, givenOf, Contract, Triple, Clauses, Lasts, FmC, fmOf}
 use Rattle.walks.proofs.Kit.{Given, Item, ‵, raw, _⊛_, _$_, _∵_, !, qed, by, move, use1, drop, rewrite, split, join, fsplit, fjoin, lft-new, lft-end}
 use Rattle.walks.proofs.Kit.{look, init, stop, from, of-opd, and-then, no-more, land, returns, calls-at}

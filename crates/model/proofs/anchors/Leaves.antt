@@ -1,7 +1,7 @@
 -- What each command leaves of buffer and senses, by the way it ends: the plain machine is asked after each call, and the values are
 -- document 01's. That the other parts stay as they were shows in the calls that follow.
 use Prim.Native.Nat.{ℕ}
-use mathlib.Core.Path.{_≡_, refl}
+use mathlib.Core.Path.{refl}
 use mathlib.Core.List.{List, [], _∷_, _++_}
 use lib.ListN.{replicate}
 use Rattle.base.specs.Pick.{pick}

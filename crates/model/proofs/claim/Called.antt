@@ -10,7 +10,7 @@ use Rattle.base.specs.Pick.{pick}
 use Rattle.model.specs.declared.record.Controller.{Controller}
 use Rattle.model.specs.Block.{blockOf, isWhole, isCopy}
 use Rattle.model.specs.Feed.{Reply, command, bare}
-use Rattle.model.specs.Record.{driveAt, bareAnswer, Effect}
+use Rattle.model.specs.Record.{driveAt, Effect}
 use Rattle.model.specs.Engine.{Result, imageOf, left, onDrive, execute, resetOf}
 use Rattle.model.specs.Machine.{Machine, step}
 use Rattle.model.specs.Claim.{System, Call, Reset, Command, fed, replyOf, replied, called}

@@ -13,11 +13,9 @@ use Rattle.base.specs.Part.{part}
 use Rattle.geometry.specs.declared.params.Params.{Params}
 use Rattle.geometry.specs.declared.config.Setting.{Setting}
 use Rattle.geometry.specs.declared.config.Setting.the-variants.{Valid, Invalid}
-use Rattle.geometry.specs.Medium.{mediumOf}
 use Rattle.model.specs.declared.block.Block.{Block}
 use Rattle.model.specs.declared.table.Command.{Command}
 use Rattle.model.specs.declared.table.Command.the-variants.{Free, OnDisk, Copy, Unknown}
-use Rattle.model.specs.declared.table.FreeCommand.{FreeCommand}
 use Rattle.model.specs.declared.table.FreeCommand.the-variants.{RequestSense, WriteBuffer, ReadBuffer, Initialize}
 use Rattle.model.specs.declared.table.DiskCommand.the-variants.{ArmWork, TrackWork, SectorWork}
 use Rattle.model.specs.declared.table.TrackCommand.the-variants.{FormatDrive, CheckTrack, FormatTrack, FormatBadTrack, AssignAlternate}
@@ -27,11 +25,11 @@ use Rattle.model.specs.declared.verdict.Verdict.{Verdict}
 use Rattle.model.specs.declared.verdict.Verdict.the-variants.{Refused, Faulty, Passed}
 use Rattle.model.specs.Block.{blockOf}
 use Rattle.model.specs.Table.{rowFor}
-use Rattle.model.specs.Record.{driveAt, blankDrive, sensed, failed, good, refused, settingIn, unless, Effect, effect, Made, made, unlessNamed}
+use Rattle.model.specs.Record.{driveAt, blankDrive, sensed, failed, good, refused, unless, Effect, effect, Made, made, unlessNamed}
 use Rattle.model.specs.Commands.{pendingEnded, formatDrive, initialized, initializedBy, initialize, doFree, doTrack, asEffect, doDisk, carryOut}
-use Rattle.model.specs.Engine.{viewOf, obey, Result, imageOf, left, onDrive, execute}
+use Rattle.model.specs.Engine.{obey, Result, imageOf, left, onDrive, execute}
 use Rattle.model.specs.Records.{isGood, Is, LabelStays, ParametersStay}
-use Rattle.model.proofs.engine.Leaving.{Makes, coded, cleared, kept, initial, formatted, LeavesBy, Obeyed, answered, denied, obeyed}
+use Rattle.model.proofs.engine.Leaving.{Makes, coded, cleared, kept, initial, formatted, Obeyed, answered, denied, obeyed}
 use Rattle.model.proofs.engine.Beyond.{unless-left, outside-kept}
 use Rattle.model.proofs.engine.Assembled.{other-entry, other-image}
 use Rattle.model.proofs.engine.Blocks.{by-block, whole-six}
