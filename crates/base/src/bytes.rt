@@ -79,7 +79,7 @@ pub fn put_front(dst: &mut [u8], src: &[u8])
     ensures { λ _. ⌜ now (dst .exit) ≡ splice 0 (now (src .entry)) (now (dst .entry)) ⌝ }
 {
     let n = src.len();
-    copy_bytes(&mut dst[0..n], src);
+    move_bytes(&mut dst[0..n], src);
 }
 
 // A number of two bytes, high byte first.

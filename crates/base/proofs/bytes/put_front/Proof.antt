@@ -3,31 +3,31 @@ use Rattle.base.proofs.Fronts.{front-lent}
 use Rattle.base.proofs.bytes.put_front.Statement.{statement}
 use Rattle.base.proofs.bytes.put_front.Tie as tie
 
-sub-copy-bytes : tie.Need-sub-copy-bytes
-sub-copy-bytes c = search needs
+sub-move-bytes : tie.Need-sub-move-bytes
+sub-move-bytes c = search needs
 
-part-copy-bytes-start : tie.Need-part-copy-bytes-start
-part-copy-bytes-start c = search needs
+part-move-bytes-start : tie.Need-part-move-bytes-start
+part-move-bytes-start c = search needs
 
-part-copy-bytes-end : tie.Need-part-copy-bytes-end
-part-copy-bytes-end c = search needs
+part-move-bytes-end : tie.Need-part-move-bytes-end
+part-move-bytes-end c = search needs
 
-copy-bytes-requires : tie.Need-copy-bytes-requires
-copy-bytes-requires c κs = search needs
+move-bytes-requires : tie.Need-move-bytes-requires
+move-bytes-requires c κs = search needs
 
 same-length : tie.Need-same-length
 same-length c = search needs
 
 returns : tie.Need-returns
-returns c = front-lent _ _ _ (c .before .before .copy-bytes .ensures)
+returns c = front-lent _ _ _ (c .before .before .move-bytes .ensures)
 
 pub put-front-spec : {M : Type 1} → statement M
 put-front-spec =
     tie.close
     (tie.spec
-    sub-copy-bytes
-    part-copy-bytes-start
-    part-copy-bytes-end
-    copy-bytes-requires
+    sub-move-bytes
+    part-move-bytes-start
+    part-move-bytes-end
+    move-bytes-requires
     same-length
     returns)
