@@ -14,7 +14,7 @@ use Rattle.copying.specs.Copying.{Copying, copyBegun, unlessEnded, copying, com
 use Rattle.copying.specs.Promises.{CopyReady, CopiedBy}
 use Rattle.copying.proofs.Laws.{copying-more, on-going, on-same, on-self, none-more}
 use Rattle.pouring.specs.declared.turn.Progress.{Progress}
-use Rattle.pouring.specs.Promises.{standing, Underway, Stood, TurnedTo, NoTurnLeft, CompletedTo}
+use Rattle.pouring.specs.Promises.{scratchLength, standing, Underway, Stood, TurnedTo, NoTurnLeft, CompletedTo}
 use Rattle.pouring.proofs.Ends.{going-or-not}
 
 -- where the Copy y stands, for a copy that began with `images₀` and the buffer `before`
@@ -46,7 +46,7 @@ abbrev first : Progress
 first = record { read = 0; done = 0; held = 0; end = Going }
 
 module _ (r : Route) (n : ℕ) (images₀ : List (List ℕ)) (before : List ℕ) where
-  pub turning-none : (scratch : List ℕ) → CopyReady r n images₀ before → length scratch ≡ 9216 → Turning r n images₀ before first scratch before images₀
+  pub turning-none : (scratch : List ℕ) → CopyReady r n images₀ before → length scratch ≡ scratchLength → Turning r n images₀ before first scratch before images₀
   turning-none scratch ready long = record {
     under = record {
       source-there = ready .source-there;

@@ -13,7 +13,7 @@ use Rattle.copying.specs.declared.route.Route.{Route}
 use Rattle.copying.specs.declared.route.End.the-variants.{Going}
 use Rattle.copying.proofs.Laws.{Even}
 use Rattle.pouring.specs.declared.turn.Progress.{Progress}
-use Rattle.pouring.specs.Promises.{standing, Underway}
+use Rattle.pouring.specs.Promises.{chunkMost, scratchLength, standing, Underway}
 
 pub times-some : (k size : ℕ) → 0 < size → k ≤ k * size
 times-some k size h = let z : k * 1 ≤ k * size = mul-le-mul {n₁ = k} {n₂ = k} (omega arith) h in omega (arith, z)
@@ -34,14 +34,14 @@ module _ (r : Route) (n : ℕ) (s : Progress) (scratch buffer : List ℕ) (image
   pub source-near : s .read < n → r .a .0 + s .read < 4294967296
   source-near l = omega (arith, l, u .fitting .source-on, sectors-most (r .p) (u .fitting .source-fits .within))
 
-  module _ (m : ℕ) (hm : (1 ≤ m) × (m ≤ n - s .read) × (m ≤ 17)) (l : s .read < n) where
+  module _ (m : ℕ) (hm : (1 ≤ m) × (m ≤ n - s .read) × (m ≤ chunkMost)) (l : s .read < n) where
     pub in-turn : s .read + m ≤ n
     in-turn = omega (arith, hm .1, l)
 
-    bytes : m * r .p .size ≤ 8704
-    bytes = mul-le-mul {n₂ = 17} {m₂ = 512} (hm .2) (u .fitting .source-fits .within .size-most)
+    bytes : m * r .p .size ≤ chunkMost * 512
+    bytes = mul-le-mul {n₂ = chunkMost} {m₂ = 512} (hm .2) (u .fitting .source-fits .within .size-most)
 
-    pub turn-fits : s .held + m * r .p .size ≤ 9216
+    pub turn-fits : s .held + m * r .p .size ≤ scratchLength
     turn-fits = omega (arith, bytes, u .short, u .fitting .target-fits .within .size-most)
 
     pub on-source : (a : Lba) → a ≡ further (r .a) (s .read) → a .0 + m ≤ addressCount (r .p)
@@ -52,7 +52,7 @@ module _ (r : Route) (n : ℕ) (s : Progress) (scratch buffer : List ℕ) (image
       read-bytes : c * r .p .size ≤ m * r .p .size
       read-bytes = mul-le-mul-right (r .p .size) lc
 
-      pub read-fits : s .held + c * r .p .size ≤ 9216
+      pub read-fits : s .held + c * r .p .size ≤ scratchLength
       read-fits = omega (arith, read-bytes, turn-fits)
 
       pub read-few : s .read + c ≤ 256

@@ -27,13 +27,13 @@ use Rattle.copying.specs.Copying.{Copying, copying}
 use Rattle.copying.specs.Listwise.{filledBy}
 use Rattle.copying.proofs.Laws.{turnRead, turnBytes, turnFull, turnWritten, Turn, turn-room, turned}
 use Rattle.pouring.specs.declared.turn.Progress.{Progress}
-use Rattle.pouring.specs.Promises.{WrittenOn, StoredBy, standing, Underway, afterTurn, TurnedTo}
+use Rattle.pouring.specs.Promises.{WrittenOn, StoredBy, chunkMost, scratchLength, standing, Underway, afterTurn, TurnedTo}
 use Rattle.pouring.proofs.Ends.{source-ended, target-ended}
 use Rattle.pouring.proofs.Fronts.{put-behind, left-over}
 use Rattle.pouring.proofs.Rooms.{held-long, stands-even, stands-short, in-turn, turn-fits, read-fits}
 
 module _ (r : Route) (n : ℕ) (s : Progress) (scratch buffer : List ℕ) (images : List (List ℕ)) (u : Underway r n s scratch buffer images)
-    (going : s .end ≡ Going) (l : s .read < n) (m : ℕ) (hm : (1 ≤ m) × (m ≤ n - s .read) × (m ≤ 17)) where
+    (going : s .end ≡ Going) (l : s .read < n) (m : ℕ) (hm : (1 ≤ m) × (m ≤ n - s .read) × (m ≤ chunkMost)) where
   abbrev x : List ℕ → Copying
   x last = standing s scratch images last
 
@@ -84,7 +84,7 @@ module _ (r : Route) (n : ℕ) (s : Progress) (scratch buffer : List ℕ) (image
     few : length (S .handed) ≤ m * r .p .size
     few = omega (arith, handed .long, mul-le-mul-right (r .p .size) (handed .most))
 
-    pub lent-long : length scratch₁ ≡ 9216
+    pub lent-long : length scratch₁ ≡ scratchLength
     lent-long =
         ap length (front-lent (s .held) (m * r .p .size) (s .held + m * r .p .size) (S .handed) scratch got refl room few (is .area))
         ∙ length-splice (s .held) (S .handed) scratch (omega (arith, room, few)) ∙ u .scratch-long
@@ -133,7 +133,7 @@ module _ (r : Route) (n : ℕ) (s : Progress) (scratch buffer : List ℕ) (image
         fits : filled ≤ length scratch₁
         fits = omega (arith, lent-long, read-fits r n s scratch buffer images u going m hm l (source .sectors) read-most)
 
-        pub moved-long : length scratched ≡ 9216
+        pub moved-long : length scratched ≡ scratchLength
         moved-long =
             let within : used + (filled - used) ≤ length scratch₁ = omega (arith, fits, div-mul-le-self filled size) in
             let few : 0 + length (part used (filled - used) scratch₁) ≤ length scratch₁ =

@@ -32,13 +32,20 @@ pub record StoredBy (r : Route) (done n : ℕ) (given buffer : List ℕ) (images
   pub front : after ≡ splice 0 (lastOf (d .sectors) (r .q .size) given) buffer
 
 -- ---- a turn
+-- source sectors of one turn, at the most
+abbrev pub chunkMost : ℕ
+chunkMost = 17
+
+-- the scratch has room for them, of 512 bytes each, and one sector more
+abbrev pub scratchLength : ℕ
+scratchLength = (chunkMost + 1) * 512
+
 -- the Copy that stands here, where the last sector written was `last`
 abbrev pub standing : (s : Progress) → (scratch : List ℕ) → (images : List (List ℕ)) → (last : List ℕ) → Copying
 standing s scratch images last =
     record { read = s .read; done = s .done; rest = take (s .held) scratch; last = last; images = images; end = s .end }
 
--- A copy of n source sectors can go on from here: every byte read is written or waits, and less than a sector waits. The scratch has room for
--- those bytes and 17 sectors of 512 bytes.
+-- A copy of n source sectors can go on from here: every byte read is written or waits, and less than a sector waits.
 pub record Underway (r : Route) (n : ℕ) (s : Progress) (scratch buffer : List ℕ) (images : List (List ℕ)) : Type 0 where
   pub source-there : r .source < 4
   pub target-there : r .target < 4
@@ -48,7 +55,7 @@ pub record Underway (r : Route) (n : ℕ) (s : Progress) (scratch buffer : List 
   pub even : s .end ≡ Going → s .read * r .p .size ≡ s .done * r .q .size + s .held
   pub short : s .held < r .q .size
   pub none : (s .end ≡ Going → ⊥) → s .held ≡ 0
-  pub scratch-long : length scratch ≡ 9216
+  pub scratch-long : length scratch ≡ scratchLength
   pub buffer-long : length buffer ≡ 512
 
 -- how far a turn came, by its Read and its Write, with `held` bytes left

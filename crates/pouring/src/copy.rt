@@ -1,6 +1,7 @@
 // Copy Blocks, turn after turn; the bytes that wait in the end are completed with zeros.
 use crate::images::store_sectors;
 use crate::turn::Progress;
+use crate::turn::SCRATCH;
 use crate::turn::turn;
 use base::bytes::set_bytes;
 use copying::route::Copied;
@@ -15,7 +16,7 @@ ghost use Rattle.copying.specs.declared.route.End.the-variants.{Going};
 ghost use Rattle.copying.specs.Images.{imagesOf};
 ghost use Rattle.copying.specs.Copying.{copied};
 ghost use Rattle.copying.specs.Promises.{CopyReady, CopiedBy};
-ghost use Rattle.pouring.specs.Promises.{endedBy, NoTurnLeft, CompletedTo};
+ghost use Rattle.pouring.specs.Promises.{scratchLength, endedBy, NoTurnLeft, CompletedTo};
 
 // Whether there is another turn.
 fn goes_on(s: Progress, n: usize) -> bool
@@ -102,7 +103,8 @@ fn copy_through(
     image2: &mut [u8],
     image3: &mut [u8],
 ) -> Copied
-    requires { ⌜ CopyReady r n (imagesOf (now image0) (now image1) (now image2) (now image3)) (now buffer) × (length (now scratch) ≡ 9216) ⌝ }
+    requires { ⌜ CopyReady r n (imagesOf (now image0) (now image1) (now image2) (now image3)) (now buffer)
+        × (length (now scratch) ≡ scratchLength) ⌝ }
     ensures { λ c. ⌜ CopiedBy (copied r n (imagesOf (now (image0 .entry)) (now (image1 .entry)) (now (image2 .entry)) (now (image3 .entry)))) c
         (now (buffer .entry)) (now (buffer .exit)) (imagesOf (now (image0 .exit)) (now (image1 .exit)) (now (image2 .exit)) (now (image3 .exit))) ⌝ }
 {
@@ -132,12 +134,11 @@ pub fn copy_sectors(
     ensures { λ c. ⌜ CopiedBy (copied r n (imagesOf (now (image0 .entry)) (now (image1 .entry)) (now (image2 .entry)) (now (image3 .entry)))) c
         (now (buffer .entry)) (now (buffer .exit)) (imagesOf (now (image0 .exit)) (now (image1 .exit)) (now (image2 .exit)) (now (image3 .exit))) ⌝ }
 {
-    // CHUNK sectors of 512 bytes, behind less than one that waits
-    let mut scratch = [0u8; 9216];
+    let mut scratch = [0u8; SCRATCH];
     copy_through(
         r,
         n,
-        &mut scratch[0..9216],
+        &mut scratch[0..SCRATCH],
         buffer,
         image0,
         image1,

@@ -60,7 +60,8 @@ pub fn write_on(
     requires { ⌜ (drive < 4) × Fits p (imageOf drive (imagesOf (now image0) (now image1) (now image2) (now image3)))
         × (a .0 + n ≤ addressCount p) × (n * p .size ≤ length (now given)) ⌝ }
     ensures { λ r. ⌜ WrittenOn drive
-        (writing p n a (now (given .entry)) (begun (imageOf drive (imagesOf (now (image0 .entry)) (now (image1 .entry)) (now (image2 .entry)) (now (image3 .entry))))))
+        (writing p n a (now (given .entry))
+        (begun (imageOf drive (imagesOf (now (image0 .entry)) (now (image1 .entry)) (now (image2 .entry)) (now (image3 .entry))))))
         r (imagesOf (now (image0 .entry)) (now (image1 .entry)) (now (image2 .entry)) (now (image3 .entry)))
         (imagesOf (now (image0 .exit)) (now (image1 .exit)) (now (image2 .exit)) (now (image3 .exit))) ⌝ }
 {

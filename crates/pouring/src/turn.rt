@@ -16,10 +16,13 @@ ghost use Rattle.base.specs.Part.{part, splice};
 ghost use Rattle.geometry.specs.Params.{Within};
 ghost use Rattle.copying.specs.declared.route.End.the-variants.{Going};
 ghost use Rattle.copying.specs.Images.{imagesOf};
-ghost use Rattle.pouring.specs.Promises.{afterTurn, Underway, TurnedTo};
+ghost use Rattle.pouring.specs.Promises.{chunkMost, Underway, afterTurn, TurnedTo};
 
 // Source sectors of one turn: with a track of 17, all of it.
 const CHUNK: usize = 17;
+
+// Bytes of the scratch: so many sectors of 512 bytes, behind less than one that waits.
+pub const SCRATCH: usize = (CHUNK + 1) * 512;
 
 // Where a copy stands between two turns: `held` bytes wait at the scratch's front.
 pub struct Progress {
@@ -32,7 +35,7 @@ pub struct Progress {
 // How many source sectors are read in one go: none past the end of their track.
 fn chunk(p: Params, a: Lba, left: usize) -> usize
     requires { ⌜ Within p × (1 ≤ left) ⌝ }
-    ensures { λ m. ⌜ (1 ≤ m) × (m ≤ left) × (m ≤ 17) ⌝ }
+    ensures { λ m. ⌜ (1 ≤ m) × (m ≤ left) × (m ≤ chunkMost) ⌝ }
 {
     let here = sectors_here(p, a, left);
     if CHUNK < here {

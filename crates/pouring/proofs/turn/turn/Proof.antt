@@ -3,6 +3,7 @@ use mathlib.Core.Path.{_≡_, sym, _∙_}
 use native.Mathlib.Nat.{div-mul-le-self}
 use native.Mathlib.Omega.{arith}
 use lib.ListN.{length, length-take, length-drop}
+use Rattle.pouring.specs.Promises.{scratchLength}
 use Rattle.pouring.proofs.Rooms.{source-near, turn-fits, on-source, read-fits, read-few, left-few, done-bytes, done-few}
 use Rattle.pouring.proofs.TurnEnds.{read-most, lent-long, moved-long, stores-given, stores-on, stored-most, turned-to}
 use borrow.Author.Needs.{needs}
@@ -20,7 +21,7 @@ chunk-requires c κs = search needs
 
 -- the sectors of the turn, behind what waits, are within the scratch
 room : (c : tie.After-struct-known2)
-    → c .before .before .before .before .before .before .before .before .before .before .before .before .args .s .held + c .before .chunk .result * c .before .before .before .before .before .before .before .before .before .before .before .before .args .r .p .size ≤ 9216
+    → c .before .before .before .before .before .before .before .before .before .before .before .before .args .s .held + c .before .chunk .result * c .before .before .before .before .before .before .before .before .before .before .before .before .args .r .p .size ≤ scratchLength
 room c = let a = c .before .before .before .before .before .before .before .before .before .before .before .before in turn-fits _ _ _ _ _ _ (a .pre .0) (a .pre .1) _ (c .before .chunk .ensures) (a .pre .2)
 
 mul-end : tie.Need-mul-end
@@ -55,7 +56,7 @@ few c =
     read-most _ _ _ _ _ _ (a .pre .0) (a .pre .1) (a .pre .2) _ (c .before .before .before .before .before .before .before .chunk .ensures) _ (c .before .before .before .before .before .before .before .before .before .further .ensures) _ _ (c .read-on .ensures)
 
 within : (c : tie.After-read-on)
-    → c .before .before .before .before .before .before .before .before .before .before .before .before .before .before .before .before .before .before .args .s .held + c .read-on .result .sectors * c .before .before .before .before .before .before .before .before .before .before .before .before .before .before .before .before .before .before .args .r .p .size ≤ 9216
+    → c .before .before .before .before .before .before .before .before .before .before .before .before .before .before .before .before .before .before .args .s .held + c .read-on .result .sectors * c .before .before .before .before .before .before .before .before .before .before .before .before .before .before .before .before .before .before .args .r .p .size ≤ scratchLength
 within c = let a = c .before .before .before .before .before .before .before .before .before .before .before .before .before .before .before .before .before .before in read-fits _ _ _ _ _ _ (a .pre .0) (a .pre .1) _ (c .before .before .before .before .before .before .before .chunk .ensures) (a .pre .2) _ (few c)
 
 mul-filled : tie.Need-mul-filled
