@@ -16,8 +16,8 @@ use Rattle.copying.specs.declared.route.Copied.{Copied}
 use Rattle.copying.specs.Images.{imageOf}
 use Rattle.copying.specs.Copying.{copied}
 use Rattle.copying.specs.Listwise.{readAll, sectorsFor, writeAll, Fitting}
-use Rattle.copying.specs.Promises.{CopyReady, CopiedBy}
 use Rattle.copying.proofs.Laws.{copied-most, copied-read, EndedBy, going, by-source, by-target, short, copied-ended, short-some}
+use Rattle.pouring.specs.Promises.{CopyReady, CopiedBy}
 use Rattle.model.specs.declared.block.CopyBlock.{CopyBlock}
 use Rattle.model.specs.declared.record.Drive.{Drive}
 use Rattle.model.specs.declared.record.Ending.{Ending}

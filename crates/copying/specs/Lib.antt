@@ -1,4 +1,3 @@
 pub mod Images
 pub mod Copying
 pub mod Listwise
-pub mod Promises

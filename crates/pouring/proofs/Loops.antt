@@ -11,10 +11,9 @@ use Rattle.copying.specs.declared.route.Copied.{Copied}
 use Rattle.copying.specs.declared.route.End.{End}
 use Rattle.copying.specs.declared.route.End.the-variants.{Going, SourceFault, TargetFault, Short}
 use Rattle.copying.specs.Copying.{Copying, copyBegun, unlessEnded, copying, completed, copied}
-use Rattle.copying.specs.Promises.{CopyReady, CopiedBy}
 use Rattle.copying.proofs.Laws.{copying-more, on-going, on-same, on-self, none-more}
 use Rattle.pouring.specs.declared.turn.Progress.{Progress}
-use Rattle.pouring.specs.Promises.{scratchLength, standing, Underway, Stood, TurnedTo, NoTurnLeft, CompletedTo}
+use Rattle.pouring.specs.Promises.{CopyReady, CopiedBy, scratchLength, standing, Underway, Stood, TurnedTo, NoTurnLeft, CompletedTo}
 use Rattle.pouring.proofs.Ends.{going-or-not}
 
 -- where the Copy y stands, for a copy that began with `images₀` and the buffer `before`

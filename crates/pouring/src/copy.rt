@@ -15,8 +15,7 @@ ghost use lib.ListN.{length};
 ghost use Rattle.copying.specs.declared.route.End.the-variants.{Going};
 ghost use Rattle.copying.specs.Images.{imagesOf};
 ghost use Rattle.copying.specs.Copying.{copied};
-ghost use Rattle.copying.specs.Promises.{CopyReady, CopiedBy};
-ghost use Rattle.pouring.specs.Promises.{scratchLength, endedBy, NoTurnLeft, CompletedTo};
+ghost use Rattle.pouring.specs.Promises.{CopyReady, CopiedBy, scratchLength, endedBy, NoTurnLeft, CompletedTo};
 
 // Whether there is another turn.
 fn goes_on(s: Progress, n: usize) -> bool
