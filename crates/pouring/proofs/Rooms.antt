@@ -3,7 +3,7 @@ use mathlib.Core.Path.{_≡_, sym, ap, _∙_}
 use mathlib.Core.List.{List}
 use Prim.Native.Nat.{ℕ, _+_, _-_, _*_, _/_, _≤_, _<_}
 use native.Mathlib.Omega.{arith}
-use native.Mathlib.Nat.{add-mul, mul-le-mul, mul-le-mul-right, div-mul-le-self, div-add-mod', mod-lt}
+use native.Mathlib.Nat.{add-mul, mul-assoc, mul-le-mul, mul-le-mul-right, div-mul-le-self, div-add-mod', mod-lt}
 use lib.ListN.{length, take}
 use lib.Seq.{length-take-le}
 use Rattle.geometry.specs.declared.params.Lba.{Lba}
@@ -13,11 +13,40 @@ use Rattle.copying.specs.declared.route.Route.{Route}
 use Rattle.copying.specs.declared.route.End.the-variants.{Going}
 use Rattle.copying.proofs.Laws.{Even}
 use Rattle.pouring.specs.declared.turn.Progress.{Progress}
-use Rattle.pouring.specs.Promises.{chunkMost, scratchLength, standing, Underway}
+use Rattle.pouring.specs.Promises.{turnMost, scratchLength, standing, Underway}
 
 pub times-some : (k size : ℕ) → 0 < size → k ≤ k * size
 times-some k size h = let z : k * 1 ≤ k * size = mul-le-mul {n₁ = k} {n₂ = k} (omega arith) h in omega (arith, z)
 
+-- ---- how many source sectors a turn reads
+-- a track longer than a turn: 17 of its sectors
+pub long-track : (here left size : ℕ) → here ≤ left → size ≤ 512 → turnMost < here * size → (1 ≤ 17) × (17 ≤ left) × (17 * size ≤ turnMost)
+long-track here left size hl hs over =
+    let most : here * size ≤ here * 512 = mul-le-mul {n₁ = here} {n₂ = here} (omega arith) hs in
+    (omega arith, omega (arith, most, over, hl), omega (arith, hs))
+
+-- those here, and whole tracks
+pub tracks-bytes : (here sectors size : ℕ) → here * size ≤ turnMost
+    → (here + (turnMost - here * size) / (sectors * size) * sectors) * size ≤ turnMost
+tracks-bytes here sectors size fits =
+    let k = (turnMost - here * size) / (sectors * size) in
+    let e = add-mul here (k * sectors) size in
+    let a = mul-assoc k sectors size in
+    omega (arith, e, a, fits, div-mul-le-self (turnMost - here * size) (sectors * size))
+
+pub tracks-few : (here sectors size : ℕ) → 0 < size → here * size ≤ turnMost
+    → here + (turnMost - here * size) / (sectors * size) * sectors ≤ turnMost
+tracks-few here sectors size some fits =
+    let m = here + (turnMost - here * size) / (sectors * size) * sectors in
+    omega (arith, tracks-bytes here sectors size fits, times-some m size some)
+
+pub fewer-bytes : (m left size : ℕ) → left ≤ m → m * size ≤ turnMost → left * size ≤ turnMost
+fewer-bytes m left size l h = omega (arith, mul-le-mul-right size l, h)
+
+pub some-bytes : (n size : ℕ) → 1 ≤ n → 0 < size → 0 < n * size
+some-bytes n size hn hs = omega (arith, times-some n size hs, hn)
+
+-- ---- the bounds of a turn
 module _ (r : Route) (n : ℕ) (s : Progress) (scratch buffer : List ℕ) (images : List (List ℕ)) (u : Underway r n s scratch buffer images)
     (going : s .end ≡ Going) where
   -- what waits is as long as it says
@@ -34,15 +63,12 @@ module _ (r : Route) (n : ℕ) (s : Progress) (scratch buffer : List ℕ) (image
   pub source-near : s .read < n → r .a .0 + s .read < 4294967296
   source-near l = omega (arith, l, u .fitting .source-on, sectors-most (r .p) (u .fitting .source-fits .within))
 
-  module _ (m : ℕ) (hm : (1 ≤ m) × (m ≤ n - s .read) × (m ≤ chunkMost)) (l : s .read < n) where
+  module _ (m : ℕ) (hm : (1 ≤ m) × (m ≤ n - s .read) × (m * r .p .size ≤ turnMost)) (l : s .read < n) where
     pub in-turn : s .read + m ≤ n
     in-turn = omega (arith, hm .1, l)
 
-    bytes : m * r .p .size ≤ chunkMost * 512
-    bytes = mul-le-mul {n₂ = chunkMost} {m₂ = 512} (hm .2) (u .fitting .source-fits .within .size-most)
-
     pub turn-fits : s .held + m * r .p .size ≤ scratchLength
-    turn-fits = omega (arith, bytes, u .short, u .fitting .target-fits .within .size-most)
+    turn-fits = omega (arith, hm .2, u .short, u .fitting .target-fits .within .size-most)
 
     pub on-source : (a : Lba) → a ≡ further (r .a) (s .read) → a .0 + m ≤ addressCount (r .p)
     on-source a e = rw e (omega (arith, in-turn, u .fitting .source-on))

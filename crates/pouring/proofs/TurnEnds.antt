@@ -27,13 +27,13 @@ use Rattle.copying.specs.Copying.{Copying, copying}
 use Rattle.copying.specs.Listwise.{filledBy}
 use Rattle.copying.proofs.Laws.{turnRead, turnBytes, turnFull, turnWritten, Turn, turn-room, turned}
 use Rattle.pouring.specs.declared.turn.Progress.{Progress}
-use Rattle.pouring.specs.Promises.{WrittenOn, StoredBy, chunkMost, scratchLength, standing, Underway, afterTurn, TurnedTo}
+use Rattle.pouring.specs.Promises.{WrittenOn, StoredBy, turnMost, scratchLength, standing, Underway, afterTurn, TurnedTo}
 use Rattle.pouring.proofs.Ends.{source-ended, target-ended}
 use Rattle.pouring.proofs.Fronts.{put-behind, left-over}
 use Rattle.pouring.proofs.Rooms.{held-long, stands-even, stands-short, in-turn, turn-fits, read-fits}
 
 module _ (r : Route) (n : ℕ) (s : Progress) (scratch buffer : List ℕ) (images : List (List ℕ)) (u : Underway r n s scratch buffer images)
-    (going : s .end ≡ Going) (l : s .read < n) (m : ℕ) (hm : (1 ≤ m) × (m ≤ n - s .read) × (m ≤ chunkMost)) where
+    (going : s .end ≡ Going) (l : s .read < n) (m : ℕ) (hm : (1 ≤ m) × (m ≤ n - s .read) × (m * r .p .size ≤ turnMost)) where
   abbrev x : List ℕ → Copying
   x last = standing s scratch images last
 

@@ -48,13 +48,13 @@ pub record StoredBy (r : Route) (done n : ℕ) (given buffer : List ℕ) (images
   pub front : after ≡ splice 0 (lastOf (d .sectors) (r .q .size) given) buffer
 
 -- ---- a turn
--- source sectors of one turn, at the most
-abbrev pub chunkMost : ℕ
-chunkMost = 17
+-- source bytes of one turn, at the most
+abbrev pub turnMost : ℕ
+turnMost = 17 * 512
 
--- the scratch has room for them, of 512 bytes each, and one sector more
+-- the scratch has room for them, and for one sector more
 abbrev pub scratchLength : ℕ
-scratchLength = (chunkMost + 1) * 512
+scratchLength = turnMost + 512
 
 -- the Copy that stands here, where the last sector written was `last`
 abbrev pub standing : (s : Progress) → (scratch : List ℕ) → (images : List (List ℕ)) → (last : List ℕ) → Copying

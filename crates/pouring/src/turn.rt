@@ -16,13 +16,13 @@ ghost use Rattle.base.specs.Part.{part, splice};
 ghost use Rattle.geometry.specs.Params.{Within};
 ghost use Rattle.copying.specs.declared.route.End.the-variants.{Going};
 ghost use Rattle.copying.specs.Images.{imagesOf};
-ghost use Rattle.pouring.specs.Promises.{chunkMost, Underway, afterTurn, TurnedTo};
+ghost use Rattle.pouring.specs.Promises.{turnMost, Underway, afterTurn, TurnedTo};
 
-// Source sectors of one turn: with a track of 17, all of it.
-const CHUNK: usize = 17;
+// Source bytes of one turn: a track of 17 sectors of 512 bytes, one of 32 of 256, or four of 16 of 128.
+const TURN: usize = 17 * 512;
 
-// Bytes of the scratch: so many sectors of 512 bytes, behind less than one that waits.
-pub const SCRATCH: usize = (CHUNK + 1) * 512;
+// Bytes of the scratch: those, behind less than a sector that waits.
+pub const SCRATCH: usize = TURN + 512;
 
 // Where a copy stands between two turns: `held` bytes wait at the scratch's front.
 pub struct Progress {
@@ -32,16 +32,34 @@ pub struct Progress {
     pub end: End,
 }
 
-// How many source sectors are read in one go: none past the end of their track.
-fn chunk(p: Params, a: Lba, left: usize) -> usize
-    requires { ⌜ Within p × (1 ≤ left) ⌝ }
-    ensures { λ m. ⌜ (1 ≤ m) × (m ≤ left) × (m ≤ chunkMost) ⌝ }
+// Of the sectors left, those here, on one track, and as many whole tracks more as fit into a turn.
+fn with_tracks(here: usize, left: usize, sectors: usize, size: usize) -> usize
+    requires { ⌜ (1 ≤ here) × (here ≤ left) × (here ≤ 32) × (1 ≤ sectors) × (sectors ≤ 32) × (0 < size) × (size ≤ 512) ⌝ }
+    ensures { λ m. ⌜ (1 ≤ m) × (m ≤ left) × (m * size ≤ turnMost) ⌝ }
 {
-    let here = sectors_here(p, a, left);
-    if CHUNK < here {
-        return CHUNK;
+    let bytes = here * size;
+    if TURN < bytes {
+        // on no disk is a track longer than a turn
+        return 17;
     }
-    here
+    let room = TURN - bytes;
+    let track = sectors * size;
+    if room < track {
+        return here;
+    }
+    let m = here + room / track * sectors;
+    if left < m {
+        return left;
+    }
+    m
+}
+
+// How many source sectors are read in one go.
+fn chunk(p: Params, a: Lba, left: usize) -> usize
+    requires { ⌜ Within p × (0 < p .size) × (1 ≤ left) ⌝ }
+    ensures { λ m. ⌜ (1 ≤ m) × (m ≤ left) × (m * p .size ≤ turnMost) ⌝ }
+{
+    with_tracks(sectors_here(p, a, left), left, p.sectors, p.size)
 }
 
 // The bytes from start to end, less than a sector, go to the front.
