@@ -1,5 +1,6 @@
 use mathlib.Core.Path.{_≡_, refl, sym, _∙_}
-use Prim.Native.Nat.{_-_}
+use mathlib.Core.List.{List}
+use Prim.Native.Nat.{ℕ, _-_}
 use lib.ListN.{length}
 use Rattle.copying.specs.Images.{imagesOf}
 use Rattle.pouring.proofs.Loops.{Turning, turnsLeft, turning-none, turning-more, turning-less, last-turn, turning-all}
@@ -26,22 +27,30 @@ turn-requires c κs =
     let on = c .before .before .before .before .before .before .before .goes-on .ensures .0 (c .before .before .before .before .before .before .if1 .taken) in
     (c .before .before .before .before .before .before .before .before .loop .inv .0 .under, on .0, on .1)
 
+-- what a turn has left of the images
+abbrev left : (w : tie.After-turn Inv-loop μ-loop) → List (List ℕ)
+left w =
+    imagesOf (w .turn .last .1 .1 .1 .1 .1 .0) (w .turn .last .1 .1 .1 .1 .1 .1 .0) (w .turn .last .1 .1 .1 .1 .1 .1 .1 .0)
+    (w .turn .last .1 .1 .1 .1 .1 .1 .1 .1 .0)
+
 loop-less : tie.Need-loop-less Inv-loop μ-loop
 loop-less c =
     let on = c .before .before .before .before .before .before .before .before .before .before .before .before .before .before .before .before .before .before .before .before .goes-on .ensures .0 (c .before .before .before .before .before .before .before .before .before .before .before .before .before .before .before .before .before .before .before .if1 .taken) in
-    turning-less _ _ _ _ _ _ _ _ (c .before .before .before .before .before .before .before .before .before .before .before .before .before .before .before .before .before .before .before .before .before .loop .inv .0) (on .0) _ _ _ _ (c .before .before .before .before .before .before .before .before .before .before .before .before .turn .ensures) (on .1)
+    let w = c .before .before .before .before .before .before .before .before .before .before .before .before in
+    turning-less _ _ _ _ _ _ _ _ (c .before .before .before .before .before .before .before .before .before .before .before .before .before .before .before .before .before .before .before .before .before .loop .inv .0) (on .0) _ _ _ (left w) (w .turn .ensures) (on .1)
 
 loop-again : tie.Need-loop-again Inv-loop μ-loop
 loop-again c =
     let on = c .before .before .before .before .before .before .before .before .before .before .before .before .before .before .before .before .before .before .before .before .goes-on .ensures .0 (c .before .before .before .before .before .before .before .before .before .before .before .before .before .before .before .before .before .before .before .if1 .taken) in
     let w = c .before .before .before .before .before .before .before .before .before .before .before .before in
     let inv-at = c .before .before .before .before .before .before .before .before .before .before .before .before .before .before .before .before .before .before .before .before .before in
-    let inv = inv-at .loop .inv in
-    let long0 : length (w .turn .last .1 .1 .1 .1 .1 .0) ≡ length (inv-at .loop .image0) = search needs in
-    let long1 : length (w .turn .last .1 .1 .1 .1 .1 .1 .0) ≡ length (inv-at .loop .image1) = search needs in
-    let long2 : length (w .turn .last .1 .1 .1 .1 .1 .1 .1 .0) ≡ length (inv-at .loop .image2) = search needs in
-    let long3 : length (w .turn .last .1 .1 .1 .1 .1 .1 .1 .1 .0) ≡ length (inv-at .loop .image3) = search needs in
-    (turning-more _ _ _ _ _ _ _ _ (inv .0) (on .0) _ _ _ _ (w .turn .ensures), long0 ∙ inv .1, long1 ∙ inv .2, long2 ∙ inv .3, long3 ∙ inv .4)
+    let inv = inv-at .loop .inv in (
+      turning-more _ _ _ _ _ _ _ _ (inv .0) (on .0) _ _ _ (left w) (w .turn .ensures),
+      c .before .before .before .before .before .before .before .image0 .given ∙ inv .1,
+      c .before .before .before .before .before .image1 .given ∙ inv .2,
+      c .before .before .before .image2 .given ∙ inv .3,
+      c .before .image3 .given ∙ inv .4,
+    )
 
 complete-requires : tie.Need-complete-requires Inv-loop μ-loop
 complete-requires c κs = last-turn _ _ _ _ _ _ _ _ (c .before .before .before .before .before .before .before .before .loop .inv .0) (c .before .before .before .before .before .before .before .goes-on .ensures .1 (c .before .before .before .before .before .before .if1 .left))
@@ -49,38 +58,32 @@ complete-requires c κs = last-turn _ _ _ _ _ _ _ _ (c .before .before .before .
 same-length : tie.Need-same-length Inv-loop μ-loop
 same-length c =
     let w = c .before .before .before .before .before .before .before .before .before .before .before .before .before .before .before .before .before .before .before .before .before in
-    let long : length (c .before .before .before .before .before .before .before .before .before .before .before .before .complete .last .1 .1 .0) ≡ length (w .loop .scratch) = search needs in
-    long ∙ w .loop .inv .0 .under .scratch-long ∙ sym (w .before .before .before .before .before .before .before .pre .1)
+    c .before .before .before .before .before .before .before .before .before .before .before .scratch2 .given ∙ w .loop .inv .0 .under .scratch-long ∙ sym (w .before .before .before .before .before .before .before .pre .1)
 
 same-length-2 : tie.Need-same-length-2 Inv-loop μ-loop
 same-length-2 c =
     let w = c .before .before .before .before .before .before .before .before .before .before .before .before .before .before .before .before .before .before .before .before .before in
-    let long : length (c .before .before .before .before .before .before .before .before .before .before .before .before .complete .last .1 .1 .1 .0) ≡ length (w .loop .buffer) = search needs in
-    long ∙ w .loop .inv .0 .under .buffer-long ∙ sym (w .before .before .before .before .before .before .before .pre .0 .whole)
+    c .before .before .before .before .before .before .before .before .before .buffer2 .given ∙ w .loop .inv .0 .under .buffer-long ∙ sym (w .before .before .before .before .before .before .before .pre .0 .whole)
 
 same-length-3 : tie.Need-same-length-3 Inv-loop μ-loop
 same-length-3 c =
     let w = c .before .before .before .before .before .before .before .before .before .before .before .before .before .before .before .before .before .before .before .before .before in
-    let long : length (c .before .before .before .before .before .before .before .before .before .before .before .before .complete .last .1 .1 .1 .1 .0) ≡ length (w .loop .image0) = search needs in
-    long ∙ w .loop .inv .1
+    c .before .before .before .before .before .before .before .image02 .given ∙ w .loop .inv .1
 
 same-length-4 : tie.Need-same-length-4 Inv-loop μ-loop
 same-length-4 c =
     let w = c .before .before .before .before .before .before .before .before .before .before .before .before .before .before .before .before .before .before .before .before .before in
-    let long : length (c .before .before .before .before .before .before .before .before .before .before .before .before .complete .last .1 .1 .1 .1 .1 .0) ≡ length (w .loop .image1) = search needs in
-    long ∙ w .loop .inv .2
+    c .before .before .before .before .before .image12 .given ∙ w .loop .inv .2
 
 same-length-5 : tie.Need-same-length-5 Inv-loop μ-loop
 same-length-5 c =
     let w = c .before .before .before .before .before .before .before .before .before .before .before .before .before .before .before .before .before .before .before .before .before in
-    let long : length (c .before .before .before .before .before .before .before .before .before .before .before .before .complete .last .1 .1 .1 .1 .1 .1 .0) ≡ length (w .loop .image2) = search needs in
-    long ∙ w .loop .inv .3
+    c .before .before .before .image22 .given ∙ w .loop .inv .3
 
 same-length-6 : tie.Need-same-length-6 Inv-loop μ-loop
 same-length-6 c =
     let w = c .before .before .before .before .before .before .before .before .before .before .before .before .before .before .before .before .before .before .before .before .before in
-    let long : length (c .before .before .before .before .before .before .before .before .before .before .before .before .complete .last .1 .1 .1 .1 .1 .1 .1 .0) ≡ length (w .loop .image3) = search needs in
-    long ∙ w .loop .inv .4
+    c .before .image32 .given ∙ w .loop .inv .4
 
 returns : tie.Need-returns Inv-loop μ-loop
 returns c =

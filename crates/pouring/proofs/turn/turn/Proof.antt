@@ -1,8 +1,10 @@
-use Prim.Native.Nat.{_+_, _*_, _/_, _≤_}
+use Prim.Native.Nat.{ℕ, _+_, _*_, _/_, _≤_}
 use mathlib.Core.Path.{_≡_, sym, _∙_}
+use mathlib.Core.List.{List}
 use native.Mathlib.Nat.{div-mul-le-self}
 use native.Mathlib.Omega.{arith}
 use lib.ListN.{length, length-take, length-drop}
+use Rattle.copying.specs.Images.{imagesOf}
 use Rattle.pouring.specs.Promises.{scratchLength}
 use Rattle.pouring.proofs.Rooms.{source-near, turn-fits, on-source, read-fits, read-few, left-few, done-bytes, done-few}
 use Rattle.pouring.proofs.TurnEnds.{read-most, lent-long, moved-long, stores-given, stores-on, stored-most, turned-to}
@@ -111,11 +113,18 @@ move-front-requires c κs =
 sub-after-turn : tie.Need-sub-after-turn
 sub-after-turn c = used (c .before .before .before .before .before .before .before .before .before .before .before .before .before .before .before .before .before .before .before .before .before .before .before .before .before .before .before .before)
 
+-- what the Write has left of the images
+abbrev left : (w : tie.After-store-sectors) → List (List ℕ)
+left w =
+    imagesOf (w .store-sectors .last .1 .1 .1 .1 .1 .0) (w .store-sectors .last .1 .1 .1 .1 .1 .1 .0) (w .store-sectors .last .1 .1 .1 .1 .1 .1 .1 .0)
+    (w .store-sectors .last .1 .1 .1 .1 .1 .1 .1 .1 .0)
+
 after-turn-requires : tie.Need-after-turn-requires
 after-turn-requires c κs =
     let k = c .before .before .before .before .before .before .before .before .before .before .before .before .before .before .before .before .before .before .before .before .before .before .before .before .before .before .before .before in
     let a = k .before .before .before .before .before .before .before .before .before .before .before .before .before .before .before .before .before .before in
-    let most = stored-most _ _ _ _ _ _ (a .pre .0) (a .pre .1) (a .pre .2) _ (k .before .before .before .before .before .before .before .chunk .ensures) _ (k .before .before .before .before .before .before .before .before .before .further .ensures) _ _ (k .read-on .ensures) _ _ _ (c .before .before .before .before .before .before .before .before .before .before .before .before .before .before .before .store-sectors .ensures) in (
+    let w = c .before .before .before .before .before .before .before .before .before .before .before .before .before .before .before in
+    let most = stored-most _ _ _ _ _ _ (a .pre .0) (a .pre .1) (a .pre .2) _ (k .before .before .before .before .before .before .before .chunk .ensures) _ (k .before .before .before .before .before .before .before .before .before .further .ensures) _ _ (k .read-on .ensures) _ _ (left w) (w .store-sectors .ensures) in (
       a .pre .0 .fitting .source-some,
       a .pre .0 .fitting .source-fits .within .size-most,
       a .pre .0 .fitting .target-fits .within .size-most,
@@ -128,22 +137,23 @@ same-length : tie.Need-same-length
 same-length c =
     let k = c .before .before .before .before .before .before .before .before .before .before .before .before .before .before .before .before .before .before .before .before .before .before .before .before .before .before .before .before .before in
     let a = k .before .before .before .before .before .before .before .before .before .before .before .before .before .before .before .before .before .before in
-    moved-long _ _ _ _ _ _ (a .pre .0) (a .pre .1) (a .pre .2) _ (k .before .before .before .before .before .before .before .chunk .ensures) _ (k .before .before .before .before .before .before .before .before .before .further .ensures) _ _ (k .read-on .ensures) _ _ _ (c .before .before .before .before .before .before .before .before .before .before .before .before .before .before .before .before .store-sectors .ensures) _ (c .before .before .before .move-front .ensures) ∙ sym (a .pre .0 .scratch-long)
+    let w = c .before .before .before .before .before .before .before .before .before .before .before .before .before .before .before .before in
+    moved-long _ _ _ _ _ _ (a .pre .0) (a .pre .1) (a .pre .2) _ (k .before .before .before .before .before .before .before .chunk .ensures) _ (k .before .before .before .before .before .before .before .before .before .further .ensures) _ _ (k .read-on .ensures) _ _ (left w) (w .store-sectors .ensures) _ (c .before .before .before .move-front .ensures) ∙ sym (a .pre .0 .scratch-long)
 
 same-length-2 : tie.Need-same-length-2
-same-length-2 c = search needs
+same-length-2 c = c .before .before .before .before .before .before .before .before .before .before .before .before .before .before .before .buffer .given
 
 same-length-3 : tie.Need-same-length-3
-same-length-3 c = search needs
+same-length-3 c = c .before .before .before .before .before .before .before .before .before .before .before .before .before .image0 .given
 
 same-length-4 : tie.Need-same-length-4
-same-length-4 c = search needs
+same-length-4 c = c .before .before .before .before .before .before .before .before .before .before .before .image1 .given
 
 same-length-5 : tie.Need-same-length-5
-same-length-5 c = search needs
+same-length-5 c = c .before .before .before .before .before .before .before .before .before .image2 .given
 
 same-length-6 : tie.Need-same-length-6
-same-length-6 c = search needs
+same-length-6 c = c .before .before .before .before .before .before .before .image3 .given
 
 buffered : (c : tie.After-after-turn) → length (c .before .before .before .before .before .before .before .before .before .before .before .before .before .before .before .before .store-sectors .last .1 .1 .1 .1 .0) ≡ 512
 buffered c = same-length-2 c ∙ c .before .before .before .before .before .before .before .before .before .before .before .before .before .before .before .before .before .before .before .before .before .before .before .before .before .before .before .before .before .before .before .before .before .before .before .before .before .before .before .before .before .before .before .before .before .before .before .pre .0 .buffer-long
@@ -152,8 +162,9 @@ returns : tie.Need-returns
 returns c =
     let k = c .before .before .before .before .before .before .before .before .before .before .before .before .before .before .before .before .before .before .before .before .before .before .before .before .before .before .before .before .before in
     let a = k .before .before .before .before .before .before .before .before .before .before .before .before .before .before .before .before .before .before in
+    let w = c .before .before .before .before .before .before .before .before .before .before .before .before .before .before .before .before in
     let whole = buffered c in
-    turned-to _ _ _ _ _ _ (a .pre .0) (a .pre .1) (a .pre .2) _ (k .before .before .before .before .before .before .before .chunk .ensures) _ (k .before .before .before .before .before .before .before .before .before .further .ensures) _ _ (k .read-on .ensures) _ _ _ (c .before .before .before .before .before .before .before .before .before .before .before .before .before .before .before .before .store-sectors .ensures) _ (c .before .before .before .move-front .ensures) whole _ (c .after-turn .ensures)
+    turned-to _ _ _ _ _ _ (a .pre .0) (a .pre .1) (a .pre .2) _ (k .before .before .before .before .before .before .before .chunk .ensures) _ (k .before .before .before .before .before .before .before .before .before .further .ensures) _ _ (k .read-on .ensures) _ _ (left w) (w .store-sectors .ensures) _ (c .before .before .before .move-front .ensures) whole _ (c .after-turn .ensures)
 
 pub turn-spec : {M : Type 1} → statement M
 turn-spec =
