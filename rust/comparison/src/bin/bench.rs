@@ -85,9 +85,10 @@ struct Copying {
     count: u32,
 }
 
-static COPIES: [Copying; 2] = [
+static COPIES: [Copying; 3] = [
     Copying { name: "largest to largest", from: &DISKS[1], to: &SECOND, count: 256 },
     Copying { name: "largest to floppy", from: &DISKS[1], to: &DISKS[2], count: 256 },
+    Copying { name: "floppy to largest", from: &DISKS[2], to: &SECOND, count: 256 },
 ];
 
 /// What is measured: it makes as many calls as it is told, on the memory lent.
