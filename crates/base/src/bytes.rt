@@ -18,7 +18,7 @@ pub fn copy_bytes(dst: &mut [u8], src: &[u8])
     }
 }
 
-// The same, for sectors: up to 512 bytes go through a local array, and LLVM, which is not told that dst and src are apart, makes
+// The same, for sectors and for what goes to a front: up to 512 bytes go through a local array, and LLVM, which is not told that dst and src are apart, makes
 // one memmove of the two loops.
 pub fn move_bytes(dst: &mut [u8], src: &[u8])
     requires { ⌜ length (now dst) ≡ length (now src) ⌝ }

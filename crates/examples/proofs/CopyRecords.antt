@@ -78,7 +78,8 @@ unfolding p q slot images start copy made lba pick part splice rows firstFrom fi
     fieldsIn settingBy settingOf isValid labelSetting idIn ownId trackBytes withTrack slotId slotData withData firstId takenBy whereBy whereOf holds
     slotUsed sectorIn sectorFrom sectorFound begun ended readSlot onward found reading contentIn contentOf putIn put onBy storeIn store stores
     pouredBy copying completedBy completed blockOf copyOf countOf isWhole blockLength isCopy checkNumber isAmong rowFor judged presentWith isUnknown
-    blockWrong controlWrong withParams pastEnd notSpared sizeIn bytesOf hitsOf inOrder fillingOf shares sayingOf judge reachOf judgeCopy addressed senseOf driveAt
+    blockWrong controlWrong withParams pastEnd notSpared sizeIn bytesOf hitsOf inOrder fillingOf shares sayingOf judge reachOf
+    judgeCopy addressed senseOf driveAt
     sensed settingIn failed good unlessNamed copyEnding copyLeft copyWith viewOf obeyCopy imageOf leftByCopy onDrives execute loadedBy loaded fresh
 facts = (refl, refl, refl, refl, refl, refl, refl)
 
@@ -97,7 +98,8 @@ unfolding sense-of p q slot images start copy made lba pick part splice rows fir
     fittedTo fieldsIn settingBy settingOf isValid labelSetting idIn ownId trackBytes withTrack slotId slotData withData firstId takenBy whereBy
     whereOf holds slotUsed sectorIn sectorFrom sectorFound begun ended readSlot onward found reading contentIn contentOf putIn put onBy storeIn store
     stores pouredBy copying completedBy completed blockOf copyOf countOf isWhole blockLength isCopy checkNumber isAmong rowFor judged presentWith
-    isUnknown blockWrong controlWrong withParams pastEnd notSpared sizeIn bytesOf hitsOf inOrder fillingOf shares sayingOf judge reachOf judgeCopy addressed senseOf
+    isUnknown blockWrong controlWrong withParams pastEnd notSpared sizeIn bytesOf hitsOf inOrder fillingOf shares sayingOf judge reachOf
+    judgeCopy addressed senseOf
     driveAt sensed settingIn failed good unlessNamed copyEnding copyLeft copyWith viewOf obeyCopy imageOf leftByCopy onDrives execute loadedBy loaded
     fresh
 left-over = (refl, refl, refl, refl, refl, refl)

@@ -1,4 +1,4 @@
--- Sessions with Copy (request E5) on the plain machine, no engine in sight: each call beside the answer that documents 01 and 02 have
+-- Sessions with Copy (request E5) on the plain machine, and by the claim of the engine: each call beside the answer that documents 01 and 02 have
 -- for it. Drive 0 is a hard disk with sectors of 256 bytes, drive 1 one of 17 sectors of 512 bytes, drive 2 a floppy of two tracks of
 -- 16 sectors of 128 bytes; for drive 3 no image is lent.
 use Prim.Native.Nat.{ℕ, _+_, _*_}
@@ -87,7 +87,7 @@ formatted tracks =
 
 -- ---- Sectors of 256 bytes to a floppy, over its track boundary, and back. The source drive's sense is without a code then, the
 -- destination's stays; the last destination sector is at the buffer's front.
-pub there-and-back : List Line
+there-and-back : List Line
 there-and-back =
     formatted 1
     ++ (saves 0 30 2 (pieces 1 2 3 4)
@@ -118,7 +118,7 @@ there-and-back =
     ∷ [])
 
 -- ---- Sectors of 512 bytes to the floppy's last four; back, a partly filled last sector is completed with zeros, counted, and 23h
-pub filled-up : List Line
+filled-up : List Line
 filled-up =
     formatted 1
     ++ (saves 1 16 1 (pieces 5 6 7 8)
@@ -155,7 +155,7 @@ filled-up =
     ∷ [])
 
 -- ---- Within one drive: up against itself, above and below; sharing one sector it is 22h with no address, and nothing changes
-pub on-one-drive : List Line
+on-one-drive : List Line
 on-one-drive =
     formatted 1
     ++ (saves 0 10 2 (pieces 1 2 3 4)
@@ -182,8 +182,8 @@ on-one-drive =
     ∷ [])
 
 -- ---- The codes of the checks, of either drive: the source drive's sense has them and names the drive; the destination's sense, the
--- buffer and the disks stay. 21h has that drive's address of the block, though its last address is what is past the end.
-pub in-order : List Line
+-- buffer and the sectors named stay. 21h has that drive's address of the block, though its last address is what is past the end.
+in-order : List Line
 in-order =
     formatted 1
     ++ (marked 0
@@ -201,12 +201,18 @@ in-order =
     ∷ ill-copied 3 0 1 2 99 0
     ∷ senses 3 0x04 0x60 0 0
     ∷ still-marked 2
-    -- byte 5's bit 7, and a control bit
+    -- bit 7 of byte 1 and of byte 5, and a control bit
+    ∷ sent (0x20 ∷ 0x80 ∷ 0 ∷ 0 ∷ 1 ∷ 0x40 ∷ 0 ∷ 0 ∷ 0 ∷ 0 ∷ []) [] (says 0 2 0 0 [])
+    ∷ senses 0 0x22 0x00 0 0
     ∷ sent (0x20 ∷ 0x00 ∷ 0 ∷ 0 ∷ 1 ∷ 0xC0 ∷ 0 ∷ 0 ∷ 0 ∷ 0 ∷ []) [] (says 0 2 0 0 [])
     ∷ senses 0 0x22 0x40 0 0
     ∷ sent (0x20 ∷ 0x00 ∷ 0 ∷ 0 ∷ 1 ∷ 0x40 ∷ 0 ∷ 0 ∷ 0 ∷ 0x20 ∷ []) [] (says 0 2 0 0 [])
     ∷ senses 0 0x22 0x00 0 0
     ∷ still-marked 2
+    ∷ buffers (replicate 512 1)
+    ∷ reads 2 0 1 128 (replicate 128 0xE5)
+    ∷ reads 2 29 3 384 (replicate 384 0xE5)
+    ∷ sets (replicate 512 1)
     -- the floppy is initialized with one track, and pending: as destination and as source
     ∷ sent (six 0x11 0x40 0 0 0 0) (0 ∷ 1 ∷ 1 ∷ 1 ∷ 0 ∷ 0 ∷ 0 ∷ 0 ∷ 0 ∷ 0 ∷ []) (says 0 0x40 0 0 [])
     ∷ marked 2
@@ -222,7 +228,7 @@ in-order =
     ∷ [])
 
 -- without parameters, on an image that is there
-pub lacking : List Line
+lacking : List Line
 lacking =
     sent (six 0x11 0x00 0 0 0 0) (config 1) (says 0 0x00 0 0 [])
     ∷ asks 0 0x04 0 1 (says 0 0x00 0 0 [])
@@ -235,7 +241,7 @@ lacking =
 
 -- ---- The floppy's track 1 is bad: its sectors from 16 on are 19h
 -- as source: 13, 14 and 15 are read and wait, nothing is written, there is no 23h; with 11 and 12 before them a sector is whole
-pub bad-source : List Line
+bad-source : List Line
 bad-source =
     formatted 1
     ++ (saves 2 11 5 (piece 1 ++ pieces 2 3 4 5)
@@ -256,7 +262,7 @@ bad-source =
     ∷ [])
 
 -- as destination: of the four that a source sector fills two are done; the first of none
-pub bad-destination : List Line
+bad-destination : List Line
 bad-destination =
     formatted 1
     ++ (saves 1 2 2 (pieces 1 2 3 4 ++ pieces 5 6 7 8)
@@ -278,7 +284,7 @@ bad-destination =
     ∷ [])
 
 -- ---- Drive 0 has three tracks, the second bad from 32 on; so is the floppy's, from 16 on. Which fault comes first ends the copy.
-pub both-bad : List Line
+both-bad : List Line
 both-bad =
     formatted 3
     ++ (saves 0 30 2 (pieces 1 2 3 4)
@@ -309,7 +315,7 @@ both-bad =
     ∷ [])
 
 -- ---- Track 1 of drive 0 is moved to track 2, which is taken: 1Ch there, from 64 on; the moved track copies as any other
-pub in-pairs : List Line
+in-pairs : List Line
 in-pairs =
     formatted 3
     ++ (sent (six 0x0E 0x00 0 32 3 0) (0 ∷ 0 ∷ 64 ∷ []) (says 0 0x00 0 0 [])
@@ -330,7 +336,7 @@ in-pairs =
 
 -- ---- Count 0 is 256: from the first of a floppy's 256 sectors on, to the last 64 of 68 sectors of 512 bytes; one address further it is
 -- 21h on either drive. Track 1 of the floppy is bad: 16 sectors are read, and fill four.
-pub count-zero : List Line
+count-zero : List Line
 count-zero =
     sent (six 0x11 0x20 0 0 0 0) (0 ∷ 4 ∷ 1 ∷ 0 ∷ 2 ∷ 0 ∷ 0 ∷ 0 ∷ 0 ∷ 0 ∷ []) (says 0 0x20 0 0 [])
     ∷ asks 1 0x04 0 1 (says 0 0x20 0 0 [])
@@ -347,7 +353,7 @@ count-zero =
     ∷ reads 1 6 2 1024 (replicate 512 0xE5 ++ pieces 1 2 3 4)
     ∷ []
 
-pub worked : Answers (lengthsOf 8464 8856 4368 0) there-and-back × Answers (lengthsOf 8464 8856 4368 0) filled-up
+worked : Answers (lengthsOf 8464 8856 4368 0) there-and-back × Answers (lengthsOf 8464 8856 4368 0) filled-up
     × Answers (lengthsOf 8464 8856 4368 0) on-one-drive × Answers (lengthsOf 8464 8856 4368 0) in-order
     × Answers (lengthsOf 8464 8856 4368 0) lacking × Answers (lengthsOf 8464 8856 4368 0) bad-source
     × Answers (lengthsOf 8464 8856 4368 0) bad-destination × Answers (lengthsOf 25360 8856 4368 0) both-bad

@@ -1,5 +1,5 @@
-// The firmware's form of the calls: it lends the controller's record and has it changed there. Thin calls over the engine,
-// which takes the drives by value and is lent the buffer, and makes a record by value, for C and Rust to link.
+// The firmware's form of the calls: it lends the controller's record and has it changed there. Thin calls over `execute_on`, which
+// takes the drives by value and is lent the buffer, and over `reset` and `fresh`, which make a record, for C and Rust to link.
 use drives::reset::fresh;
 use drives::reset::reset;
 use engine::run::execute_on;

@@ -1,4 +1,4 @@
--- Laws of one character of a line: what it makes of the line, case by case.
+-- Laws of one character of a line: what it makes of the line, case by case; and whether a line is begun.
 use Prim.Native.Nat.{ℕ, _+_, _*_, _≤_, _<_}
 use mathlib.Core.Path.{_≡_, refl, sym, ap, _∙_}
 use mathlib.Core.Bool.{Bool, true, false, or-true}

@@ -128,7 +128,7 @@ inOrder a hits =
 abbrev pub judgeOver : Block → (reach : ℕ) → View → (given area : ℕ) → Verdict
 judgeOver b reach v given area = judged (inOrder (b .address) (hitsOf (rowFor (b .opcode)) b reach v given area))
 
--- A command of a block of six bytes, up to its own checks.
+-- On one drive, with as many sectors as the row says: a command of six bytes, up to its own checks, and a Copy's source.
 unfoldable pub judge : Block → View → (given area : ℕ) → Verdict
 judge b v given area = judgeOver b (reachOf (applies Counted (rowFor (b .opcode))) b) v given area
 

@@ -6,10 +6,12 @@ use mathlib.Core.Bool.{Bool, true, false}
 use mathlib.Core.List.{List, [], _∷_, map}
 use lib.ListN.{replicate}
 use Rattle.base.specs.Pick.{pick}
+use Rattle.base.specs.Part.{part}
+use Rattle.base.specs.Same.{sameBytes}
 use Rattle.geometry.specs.declared.medium.Medium.{Medium}
 use Rattle.geometry.specs.declared.medium.Medium.the-variants.{HardDisk, Floppy}
 use Rattle.geometry.specs.Medium.{mediumOf, isFloppy, isIn, rangesOf}
-use Rattle.geometry.specs.Config.{sizeFor, fittedTo, fieldsIn, settingBy, settingOf, isValid}
+use Rattle.geometry.specs.Config.{sizeFor, fittedTo, fieldsIn, settingBy, settingOf, isValid, labelSetting}
 use Rattle.model.specs.declared.verdict.Verdict.{Verdict}
 use Rattle.model.specs.declared.verdict.Verdict.the-variants.{Refused, Faulty, Passed}
 use Rattle.model.specs.declared.verdict.Judgement.{Judgement}
@@ -20,8 +22,8 @@ use Rattle.model.specs.Checks.{judged, presentWith, isUnknown, blockWron
 use Rattle.model.specs.Checks.{reachOf, fillingOf, shares, sayingOf, judgeCopy}
 use Rattle.model.specs.Sense.{addressed, senseOf}
 use Rattle.model.specs.Feed.{command}
-use Rattle.model.specs.Record.{settingIn, failed, unlessNamed}
-use Rattle.model.specs.Engine.{imageOf, viewOf, obey, obeyCopy, left, leftByCopy, onDrive, onDrives, execute, fresh}
+use Rattle.model.specs.Record.{blankDrive, driveAt, sensed, settingIn, failed, unlessNamed}
+use Rattle.model.specs.Engine.{imageOf, viewOf, obey, obeyCopy, left, leftByCopy, onDrive, onDrives, execute, loadedBy, loaded, fresh}
 use Rattle.model.specs.Machine.{freshDisk, freshMachine, settingWith, seen, ordered, orderedCopy, step, failingOn, providingOn}
 
 -- ---- Number 1: a block that begins with 20h has not ten bytes, any other, an empty one too, not six
@@ -47,6 +49,16 @@ unfolding bytes blocks numbers execute onDrive onDrives left leftByCopy obey obe
     judged sayingOf fillingOf inOrder hitsOf isUnknown blockWrong controlWrong isAmong checkNumber isWhole blockLength isCopy
     imageOf
 ten-or-six = (refl, refl)
+
+-- ---- A Copy from drive 2 to drive 0, neither of which is there: 04h is in drive 2's sense, and names drive 2; drive 0's has nothing
+sense-place : (d : ℕ) → List ℕ
+sense-place d = driveAt (execute (fresh []) (0x20 ∷ 0x40 ∷ replicate 8 0) [] [] [] .outcome .controller) d .sense
+
+sensed-there : (sense-place 2 ≡ 0x04 ∷ 0x40 ∷ 0 ∷ 0 ∷ []) × (sense-place 0 ≡ 0 ∷ 0 ∷ 0 ∷ 0 ∷ [])
+unfolding sense-place execute onDrives leftByCopy obeyCopy unlessNamed failed sensed driveAt fresh loaded loadedBy viewOf settingIn presentWith pick
+    mediumOf isFloppy blockOf copyOf rowFor judge judgeCopy judged sayingOf fillingOf inOrder hitsOf isUnknown blockWrong controlWrong isAmong
+    checkNumber isWhole blockLength isCopy imageOf part sameBytes labelSetting addressed senseOf blankDrive
+sensed-there = (refl, refl)
 
 -- ---- The fields of ten bytes: bit 7 of byte 1, source drive, address, count, control; bit 7 of byte 5, destination drive, address
 one : Bool → ℕ
@@ -184,8 +196,8 @@ source-first :
     × (with-all 0x00 (at (of256 1 true true 8464) 0x20 30) ≡ always 0x16 0x20 0 0)
 unfolding drive of256 of128 hard floppy at heard said ten four destinations of-destination with-all always
     viewOf settingIn presentWith mediumOf isFloppy isIn rangesOf settingOf settingBy fieldsIn sizeFor fittedTo pick blockOf copyOf countOf rowFor
-    judgeCopy judge reachOf judged sayingOf fillingOf shares inOrder hitsOf isUnknown blockWrong controlWrong withParams interleaveWrong pastEnd notSpared isValid
-    sizeIn bytesOf isAmong checkNumber addressed senseOf
+    judgeCopy judge reachOf judged sayingOf fillingOf shares inOrder hitsOf isUnknown blockWrong controlWrong withParams interleaveWrong pastEnd
+    notSpared isValid sizeIn bytesOf isAmong checkNumber addressed senseOf
 source-first = (refl, refl, refl, refl, refl, refl, refl, refl, refl, refl, refl, refl)
 
 -- ---- The destination's reach is what the bytes fill, the last sector perhaps in part: the last address that fits, and one more
@@ -223,8 +235,8 @@ reach :
     × (fits 3 (at large 0x00 15) (at hard 0x20 0) ≡ four 0xA1 0x00 0 15)
 unfolding drive of256 of512 of128 hard large floppy at heard said ten four fits
     viewOf settingIn presentWith mediumOf isFloppy isIn rangesOf settingOf settingBy fieldsIn sizeFor fittedTo pick blockOf copyOf countOf rowFor
-    judgeCopy judge reachOf judged sayingOf fillingOf shares inOrder hitsOf isUnknown blockWrong controlWrong withParams interleaveWrong pastEnd notSpared isValid
-    sizeIn bytesOf isAmong checkNumber addressed senseOf
+    judgeCopy judge reachOf judged sayingOf fillingOf shares inOrder hitsOf isUnknown blockWrong controlWrong withParams interleaveWrong pastEnd
+    notSpared isValid sizeIn bytesOf isAmong checkNumber addressed senseOf
 reach = (refl, refl, refl, refl, refl, refl, refl, refl, refl, refl, refl, refl, refl, refl, refl, refl, refl, refl, refl, refl, refl)
 
 -- ---- Count 0 is 256: 256 sectors of 256 bytes fill 512 of 128, 256 of 512 bytes fill 1,024; 255 of 256 bytes fill 510
@@ -246,8 +258,8 @@ many :
     × (fits 0 (at (of512 16 true false 141456) 0x20 17) (at (of128 64 true false 139280) 0x40 0) ≡ four 0xA1 0x20 0 17)
 unfolding drive of256 of512 of128 hard256 floppy512 at heard said ten four fits
     viewOf settingIn presentWith mediumOf isFloppy isIn rangesOf settingOf settingBy fieldsIn sizeFor fittedTo pick blockOf copyOf countOf rowFor
-    judgeCopy judge reachOf judged sayingOf fillingOf shares inOrder hitsOf isUnknown blockWrong controlWrong withParams interleaveWrong pastEnd notSpared isValid
-    sizeIn bytesOf isAmong checkNumber addressed senseOf
+    judgeCopy judge reachOf judged sayingOf fillingOf shares inOrder hitsOf isUnknown blockWrong controlWrong withParams interleaveWrong pastEnd
+    notSpared isValid sizeIn bytesOf isAmong checkNumber addressed senseOf
 many = (refl, refl, refl, refl, refl, refl, refl, refl, refl)
 
 -- ---- 22h where both share a sector, with no address and of the source drive: on drive 1, sectors 5, 6 and 7 are copied to these
@@ -278,6 +290,6 @@ sharing :
     × (fits 3 (at hard 0x20 29) (at hard 0x20 30) ≡ four 0xA1 0x20 0 30)
 unfolding drive of256 of128 hard floppy at heard said ten four fits shared no-address wide
     viewOf settingIn presentWith mediumOf isFloppy isIn rangesOf settingOf settingBy fieldsIn sizeFor fittedTo pick blockOf copyOf countOf rowFor
-    judgeCopy judge reachOf judged sayingOf fillingOf shares inOrder hitsOf isUnknown blockWrong controlWrong withParams interleaveWrong pastEnd notSpared isValid
-    sizeIn bytesOf isAmong checkNumber addressed senseOf
+    judgeCopy judge reachOf judged sayingOf fillingOf shares inOrder hitsOf isUnknown blockWrong controlWrong withParams interleaveWrong pastEnd
+    notSpared isValid sizeIn bytesOf isAmong checkNumber addressed senseOf
 sharing = (refl, refl, refl, refl, refl, refl, refl, refl, refl)

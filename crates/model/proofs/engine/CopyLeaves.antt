@@ -1,5 +1,6 @@
 -- What a call with a Copy leaves, drive by drive: of the entries only the source's sense changes, of the images only the
--- destination's, and there neither the label nor a byte past the last track; of the buffer only the front, by the last sector done.
+-- destination's, and there neither the label nor a byte past the last track, and nothing where no sector is done; of the buffer only
+-- the front, by the last sector done.
 use Prim.Native.Nat.{ℕ, suc, _≤_, _<_}
 use mathlib.Core.Path.{_≡_, refl, sym, ap, _∙_}
 use mathlib.Core.Bool.{true}
@@ -19,6 +20,7 @@ use Rattle.sectors.specs.Transfer.{Transfer, begun}
 use Rattle.sectors.specs.Last.{lastOf}
 use Rattle.sectors.proofs.Laws.{writing-taken}
 use Rattle.contents.specs.Content.{Bytes, contentOf}
+use Rattle.contents.proofs.Laws.{putAll, writing-puts}
 use Rattle.copying.specs.declared.route.Route.{Route}
 use Rattle.copying.specs.declared.route.End.{End}
 use Rattle.copying.specs.declared.route.End.the-variants.{Going, SourceFault, TargetFault, Short}
@@ -171,6 +173,16 @@ module _ (r : Route) (n : ℕ) (images : List (List ℕ)) (fit : Fitting r n ima
       ∙ writing-taken (r .q) (sectorsFor r n (x .done)) (r .b) given (imageOf (r .target) images) .last
       ∙ ap (λ (m : ℕ). lastOf m (r .q .size) given) (sym (ap (λ (y : Copying). y .done) is))
 
+  -- no sector done: no byte of the destination's image has changed
+  target-none : copied r n images .done ≡ 0 → imageOf (r .target) (copied r n images .images) ≡ imageOf (r .target) images
+  unfolding putAll
+  target-none e =
+      let given = x .handed ++ replicate (r .q .size) 0 in
+      let none = sym (ap (λ (y : Copying). y .done) (copied-listwise r n images fit)) ∙ e in
+      copied-target r n images fit
+      ∙ writing-puts (r .q) (sectorsFor r n (x .done)) (r .b) (imageOf (r .target) images) given
+      ∙ ap (λ (m : ℕ). putAll (r .q) m (r .b) given (imageOf (r .target) images)) none
+
   last-none : copied r n images .done ≡ 0 → copied r n images .last ≡ []
   unfolding lastOf
   last-none e = its-last ∙ ap (λ (m : ℕ). lastOf m (r .q .size) (x .handed ++ replicate (r .q .size) 0)) e
@@ -198,7 +210,8 @@ pub record CopyLeaves (k : CopyBlock) (c : Controller) (area : List ℕ) (images
   pub outside : (d : ℕ)
       → Outside 16 (settingIn (mediumOf d) (driveAt c d) (length (imageOf d images))) (imageOf d images) (imageOf d (r .images))
   pub other-images : (d : ℕ) → (d ≡ k .to .drive → ⊥) → imageOf d (r .images) ≡ imageOf d images
-  -- no sector done: the buffer stays; else the last one done, as it now reads, is at its front
+  -- no sector done: every image stays, byte for byte, and the buffer; else the last one done, as it now reads, is at the buffer's front
+  pub images-none : r .outcome .answer .sectors ≡ 0 → (d : ℕ) → imageOf d (r .images) ≡ imageOf d images
   pub buffer-none : r .outcome .answer .sectors ≡ 0 → r .outcome .controller .buffer ≡ c .buffer
   pub buffer-front : (m : ℕ) → r .outcome .answer .sectors ≡ suc m
       → (q : Params) × (last : List ℕ)
@@ -227,6 +240,7 @@ module _ (c : Controller) (block area : List ℕ) (images : List (List ℕ)) (co
         other-entries = copy-other-entry from e c area;
         outside = λ d. outside-self 16 _ (imageOf d images);
         other-images = λ d ne. refl;
+        images-none = λ z d. refl;
         buffer-none = λ z. refl;
         buffer-front = λ m some. absurd (omega (arith, some));
       }
@@ -264,6 +278,7 @@ module _ (c : Controller) (block area : List ℕ) (images : List (List ℕ)) (co
         other-entries = copy-other-entry from e c area;
         outside = λ d. by d (ℕ-discrete d to);
         other-images = copied-others r n images (copies .fitting);
+        images-none = λ z d. still d (sym count ∙ z) (ℕ-discrete d to);
         buffer-none = λ z. ap (λ (last : List ℕ). splice 0 last (c .buffer)) (last-none r n images (copies .fitting) (sym count ∙ z)) ∙ splice-none (c .buffer);
         buffer-front = λ m some. (q, x .last, copies .target-valid, last-reads r n images (copies .fitting) m (sym count ∙ some), refl);
       }
@@ -278,6 +293,10 @@ module _ (c : Controller) (block area : List ℕ) (images : List (List ℕ)) (co
           → Outside 16 (settingIn (mediumOf d) (driveAt c d) (length (imageOf d images))) (imageOf d images) (imageOf d (copied r n images .images))
       by d (yes e) = rw (e, copies .target-valid) (target-outside r n images (copies .fitting))
       by d (no ne) = rw (copied-others r n images (copies .fitting) d ne) (outside-self 16 _ (imageOf d images))
+
+      still : (d : ℕ) → copied r n images .done ≡ 0 → Dec (d ≡ to) → imageOf d (copied r n images .images) ≡ imageOf d images
+      still d none (yes e) = rw e (target-none r n images (copies .fitting) none)
+      still d none (no ne) = copied-others r n images (copies .fitting) d ne
 
   pub copy-leaves : CopyLeaves (copyOf block) c area images (onDrives (copyOf block) c area images)
   copy-leaves = by-copy c block area images copy (CopyLeaves (copyOf block) c area images) (λ named code at some. failed-leaves named code at) done-leaves

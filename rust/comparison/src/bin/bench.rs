@@ -3,7 +3,7 @@
 //!
 //! `cargo run --offline --release --manifest-path rust/Cargo.toml --bin bench` prints a table of
 //! nanoseconds a call and of ratios, and one of copies from disk to disk, beside the library's own
-//! Read and Write of the same sectors. `bench count DISK ROW CALLS` prepares a disk and makes that many
+//! Read and Write of as many sectors. `bench count DISK ROW CALLS` prepares a disk and makes that many
 //! calls of the proved library, for `tests/instructions`, which has valgrind count them; `bench rows`
 //! lists disks and rows, and a count takes any `Read N`, `Write N` and `Format N tracks` besides.
 
@@ -303,7 +303,7 @@ impl Copying {
         black_box(answer);
     }
 
-    /// The same sectors by Read, and by as many Writes as they need.
+    /// As many sectors by Read, and by as many Writes as they need.
     fn execute_transfers(&self, engine: &mut impl Engine, memories: &mut Memories) {
         let [from, to] = memories.addresses(self);
         let Memories { from: source, to: destination } = memories;

@@ -4,7 +4,6 @@ use native.Mathlib.Omega.{arith}
 use Rattle.geometry.proofs.Sizes.{sectors-most}
 use Rattle.copying.specs.Images.{imagesOf, imageOf}
 use Rattle.pouring.proofs.Drives.{further-room, done-room, stored}
-use borrow.Author.Needs.{needs}
 use Rattle.pouring.proofs.images.store_sectors.Statement.{statement}
 use Rattle.pouring.proofs.images.store_sectors.Tie as tie
 
