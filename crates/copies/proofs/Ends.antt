@@ -32,7 +32,10 @@ use Rattle.copies.specs.Ends.{CanEnd}
 pub copies-on : (k : CopyBlock) (p q : Params) (m : ℕ) (images : List (List ℕ)) (buffer : List ℕ) → m ≡ countOf (k .from) → OnDrives k p q images
     → length buffer ≡ 512 → m ≤ 256 → CopyReady (routeOf k p q) m images buffer
 copies-on k p q m images buffer e ready whole few =
-    record { source-there = ready .from .drive; target-there = ready .to .drive; most = few; fitting = rw e (ready .fitting); whole = whole }
+    record {
+      route = record { source-there = ready .from .drive; target-there = ready .to .drive; most = few; fitting = rw e (ready .fitting) };
+      whole = whole;
+    }
 
 -- ---- codes
 ended-source : (source target : ℕ) {end : End} → EndedBy source target end → source < 0x80 → (code : ℕ) → end ≡ SourceFault code → code < 0x80

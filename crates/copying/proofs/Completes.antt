@@ -3,7 +3,7 @@ use mathlib.Core.Path.{_≡_, refl, sym, ap, _∙_}
 use mathlib.Core.List.{List, [], _∷_}
 use Prim.Native.Nat.{ℕ, suc, _+_, _-_, _*_, _/_, _≤_, _<_}
 use native.Mathlib.Omega.{arith}
-use native.Mathlib.Nat.{add-zero, suc-mul, mul-le-mul-right}
+use native.Mathlib.Nat.{add-zero, suc-mul}
 use native.Mathlib.Decide.{decLt}
 use lib.ListN.{length, take, set}
 use lib.Seq.{take-all}
@@ -21,7 +21,7 @@ use Rattle.copying.proofs.Steps.{part-completed, filled-long}
 use Rattle.copying.proofs.Follows.{Along, Halted, store-by}
 use Rattle.copying.proofs.Pours.{Even}
 use Rattle.copying.proofs.Clears.{clear-of}
-use Rattle.copying.proofs.Onto.{Onto, from-front, goes-on, Front, front-onto}
+use Rattle.copying.proofs.Onto.{Onto, from-front, goes-on}
 
 -- the Write of the bytes that wait, with zeros
 abbrev pub lastWritten : (r : Route) → (x : Copying) → Transfer
@@ -42,7 +42,6 @@ pub record Completion (r : Route) (x y : Copying) : Type 0 where
   pub read : y .read ≡ x .read
   pub done : y .done ≡ x .done + lastWritten r x .done
   pub images : y .images ≡ set (x .images) (r .target) (lastWritten r x .image)
-  pub front : length (x .last) ≤ r .q .size → Front (r .q .size) (x .last) (lastWritten r x .done) (filled (r .q .size) (x .rest)) (y .last)
   pub target : (lastWritten r x .code ≡ 0 → ⊥) → y .end ≡ TargetFault (lastWritten r x .code)
   pub short : lastWritten r x .code ≡ 0 → y .end ≡ Short
 
@@ -129,10 +128,6 @@ module _ (r : Route) (n : ℕ) (x : Copying) (fit : Fitting r n (x .images)) (go
           read = w .read;
           done = w .done ∙ onto .done;
           images = w .images ∙ ap (set (x .images) (r .target)) (onto .image);
-          front = λ h.
-              let enough : W .done * r .q .size ≤ length given =
-              omega (arith, mul-le-mul-right (r .q .size) most, filled-long (r .q .size) (x .rest)) in
-              rw (w .last) (front-onto (x .done) (r .q .size) (x .last) given _ W onto h enough);
           target = λ failed. w .target (omega (arith, onto .done, none failed)) ∙ ap TargetFault (onto .code);
           short = λ z. w .short (omega (arith, onto .done, writing-all (r .q) 1 (further (r .b) (x .done)) T given z));
         }

@@ -16,6 +16,8 @@ pub use Rattle.copying.proofs.Lefts.{copied-target, copied-others}
 pub use Rattle.copying.proofs.Lefts.{copied-fits, copied-length}
 -- each destination sector done reads its bytes, every other address of the target reads as before
 pub use Rattle.copying.proofs.Lefts.{copied-given, copied-elsewhere}
+-- the last sector done, if any, reads as what was written last
+pub use Rattle.copying.proofs.Lasts.{last-none, last-reads}
 -- some source sectors fill some destination sector
 pub use Rattle.copying.proofs.Counts.{filled-some}
 -- no more sectors than were asked for; what ended it, by the codes of the Read and the Write; a last sector that is completed is there
@@ -25,8 +27,6 @@ pub use Rattle.copying.proofs.Bounds.{copied-most, copied-read, EndedBy
 pub use Rattle.copying.proofs.Turns.{turnRead, turnBytes, turnFull, turnWritten, Turn, turn-room, turned}
 -- the last sector, completed with zeros
 pub use Rattle.copying.proofs.Completes.{lastWritten, last-room, Completion, completes}
--- the last sector written, at the front of the buffer
-pub use Rattle.copying.proofs.Onto.{Front}
 -- every byte read is written or waits
 pub use Rattle.copying.proofs.Pours.{Even}
 -- some source sectors and then more; on with what goes on; nothing is completed where no byte waits

@@ -13,6 +13,7 @@ pub mod Completes
 pub mod AtOnce
 pub mod Codes
 pub mod Lefts
+pub mod Lasts
 pub mod Bounds
 pub mod Laws
 pub mod Anchors

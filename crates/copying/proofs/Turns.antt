@@ -3,7 +3,7 @@ use mathlib.Core.Path.{_≡_, refl, sym, ap, _∙_}
 use mathlib.Core.List.{List, [], _++_, append-nil}
 use Prim.Native.Nat.{ℕ, zero, suc, _+_, _-_, _*_, _/_, _≤_, _<_}
 use native.Mathlib.Omega.{arith}
-use native.Mathlib.Nat.{add-zero, add-mul, mul-le-mul-right}
+use native.Mathlib.Nat.{add-zero, add-mul}
 use native.Mathlib.Decide.{decLt}
 use lib.ListN.{length, drop, set, length-append, length-drop}
 use Rattle.geometry.specs.declared.params.Lba.{Lba}
@@ -25,7 +25,7 @@ use Rattle.copying.proofs.Steps.{copying-more, none-more}
 use Rattle.copying.proofs.Follows.{Along, Halted, SameSource}
 use Rattle.copying.proofs.Pours.{Even, Needed, copying-by}
 use Rattle.copying.proofs.Clears.{clear-of}
-use Rattle.copying.proofs.Onto.{Onto, from-front, goes-on, Front, front-onto}
+use Rattle.copying.proofs.Onto.{Onto, from-front, goes-on}
 
 -- ---- c source sectors from where the Copy x stands
 module _ (r : Route) (x : Copying) (c : ℕ) where
@@ -59,7 +59,6 @@ pub record Turn (r : Route) (n : ℕ) (x : Copying) (c : ℕ) (y : Copying) : Ty
   pub done : y .done ≡ x .done + turnWritten r x c .done
   pub images : y .images ≡ set (x .images) (r .target) (turnWritten r x c .image)
   pub fitting : Fitting r n (y .images)
-  pub front : length (x .last) ≤ r .q .size → Front (r .q .size) (x .last) (turnWritten r x c .done) (turnBytes r x c) (y .last)
   pub target : (turnWritten r x c .code ≡ 0 → ⊥)
       → (y .end ≡ TargetFault (turnWritten r x c .code)) × (y .rest ≡ []) × (y .read ≡ filledBy (suc (y .done)) (r .q .size) (r .p .size))
   pub source : turnWritten r x c .code ≡ 0 → (turnRead r x c .code ≡ 0 → ⊥)
@@ -233,9 +232,6 @@ module _ (r : Route) (n : ℕ) (x : Copying) (fit : Fitting r n (x .images)) (go
         done = done;
         images = images;
         fitting = rw images (fitting-still r n (x .images) fit (W .image) (writing-length (r .q) k (further (r .b) (x .done)) T (turnBytes r x c) (fit .target-fits) given));
-        front = λ h.
-            let enough : W .done * r .q .size ≤ length (turnBytes r x c) = omega (arith, mul-le-mul-right (r .q .size) most, full .enough) in
-            rw (t .last) (front-onto (x .done) (r .q .size) (x .last) (turnBytes r x c) _ W onto h enough);
         target = λ failed.
             let is = t .target (omega (arith, onto .done, few failed)) in
             let needed = needed-is (r .p .size) (suc (copying r c x .done) * r .q .size) (copying r c x .read) (fit .source-some)

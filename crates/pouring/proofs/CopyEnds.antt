@@ -8,11 +8,9 @@ use native.Mathlib.Decide.{ℕ-discrete}
 use borrow.Author.Tests.{eq-eqb, ne-eqb}
 use borrow.Rule.Slice.PartMut.{putMid}
 use lib.ListN.{length, take, drop, replicate}
-use Rattle.base.specs.Part.{splice}
 use Rattle.base.proofs.Decide.{pick-true, pick-false}
 use Rattle.geometry.specs.Params.{addressCount, further}
 use Rattle.sectors.specs.declared.transfer.Done.{Done}
-use Rattle.sectors.specs.Last.{lastOf}
 use Rattle.sectors.specs.Transfer.{Transfer}
 use Rattle.contents.proofs.Laws.{writing-most}
 use Rattle.copying.specs.declared.route.Route.{Route}
@@ -27,8 +25,8 @@ use Rattle.pouring.proofs.Ends.{going-or-not}
 use Rattle.pouring.proofs.Fronts.{zeros-behind}
 use Rattle.pouring.proofs.Rooms.{times-some, held-long, stands-even}
 
-module _ (r : Route) (s : Progress) (scratch buffer : List ℕ) (images : List (List ℕ)) (h : NoTurnLeft r s scratch buffer images) where
-  abbrev u : Underway r (h .count) s scratch buffer images
+module _ (r : Route) (s : Progress) (scratch : List ℕ) (images : List (List ℕ)) (h : NoTurnLeft r s scratch images) where
+  abbrev u : Underway r (h .count) s scratch images
   u = h .under
 
   abbrev size : ℕ
@@ -38,10 +36,9 @@ module _ (r : Route) (s : Progress) (scratch buffer : List ℕ) (images : List (
   x last = standing s scratch images last
 
   -- ---- nothing waits
-  pub none-waits : s .held ≡ 0 → CompletedTo r s scratch buffer images (record { read = s .read; done = s .done; end = s .end }) buffer images
-  none-waits z last before few e =
-      rw (none-completed r (x last) (ap (λ (i : ℕ). take i scratch) z))
-      (record { read = refl; done = refl; end = refl; front = e; left = refl })
+  pub none-waits : s .held ≡ 0 → CompletedTo r s scratch images (record { read = s .read; done = s .done; end = s .end }) images
+  none-waits z last =
+      rw (none-completed r (x last) (ap (λ (i : ℕ). take i scratch) z)) (record { read = refl; done = refl; end = refl; left = refl })
 
   -- ---- bytes wait
   module _ (some : s .held ≡ 0 → ⊥) where
@@ -84,15 +81,12 @@ module _ (r : Route) (s : Progress) (scratch buffer : List ℕ) (images : List (
       pub last-given : 1 * size ≤ length given
       last-given = rw given-is (omega (arith, filled-long size (take (s .held) scratch)))
 
-      module _ (target : Done) (buffered : List ℕ) (left : List (List ℕ)) (stored : StoredBy r (s .done) 1 given buffer images target buffered left) where
+      module _ (target : Done) (left : List (List ℕ)) (stored : StoredBy r (s .done) 1 given images target left) where
         abbrev W : Transfer
         W = lastWritten r (x [])
 
         written : WrittenOn (r .target) W target images left
-        written = rw given-is at (stored .written)
-
-        last-front : buffered ≡ splice 0 (lastOf (W .done) size (filled size (take (s .held) scratch))) buffer
-        last-front = rw (given-is, written .sectors) at (stored .front)
+        written = rw given-is at stored
 
         pub done-few : s .done + target .sectors ≤ 131073
         done-few =
@@ -101,26 +95,25 @@ module _ (r : Route) (s : Progress) (scratch buffer : List ℕ) (images : List (
 
         completion : (last : List ℕ) → Completion r (x last) (completed r (x last))
         completion last =
-            completes r (h .count) (x last) (u .fitting) going (stands-even r (h .count) s scratch buffer images u going last) (h .all going)
-            (rw (held-long r (h .count) s scratch buffer images u going) waits)
+            completes r (h .count) (x last) (u .fitting) going (stands-even r (h .count) s scratch images u going last) (h .all going)
+            (rw (held-long r (h .count) s scratch images u going) waits)
 
         copied : (c : Copied) → c .read ≡ s .read → c .done ≡ s .done + target .sectors → ((last : List ℕ) → completed r (x last) .end ≡ c .end)
-            → CompletedTo r s scratch buffer images c buffered left
-        copied c er ed ee last before few e =
+            → CompletedTo r s scratch images c left
+        copied c er ed ee last =
             let k = completion last in
             record {
               read = er ∙ sym (k .read);
               done = ed ∙ ap (λ (i : ℕ). s .done + i) (written .sectors) ∙ sym (k .done);
               end = sym (ee last);
-              front = last-front ∙ ap (splice 0 (lastOf (W .done) size (filled size (take (s .held) scratch)))) e ∙ k .front few .over before;
               left = written .images ∙ sym (k .images);
             }
 
-        pub completed-to : (c : Copied) → c ≡ endedBy s target → CompletedTo r s scratch buffer images c buffered left
+        pub completed-to : (c : Copied) → c ≡ endedBy s target → CompletedTo r s scratch images c left
         unfolding endedBy
         completed-to c e = rw e (by (ℕ-discrete (target .code) 0))
           where
-            by : Dec (target .code ≡ 0) → CompletedTo r s scratch buffer images (endedBy s target) buffered left
+            by : Dec (target .code ≡ 0) → CompletedTo r s scratch images (endedBy s target) left
             by (yes z) =
                 rw (pick-true _ _ _ (eq-eqb _ _ z))
                 (copied _ refl refl (λ last. completion last .short (sym (written .code) ∙ z)))

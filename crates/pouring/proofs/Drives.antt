@@ -1,20 +1,16 @@
 -- One of the images, by its drive.
 use mathlib.Core.Path.{_≡_, ap}
 use mathlib.Core.List.{List, []}
-use Prim.Native.Nat.{ℕ, _+_, _*_, _≤_, _<_}
+use Prim.Native.Nat.{ℕ, _+_, _≤_, _<_}
 use native.Mathlib.Omega.{arith}
-use native.Mathlib.Nat.{mul-le-mul-right}
-use lib.ListN.{length, getD, set}
-use Rattle.base.specs.Part.{splice}
+use lib.ListN.{getD, set}
 use Rattle.geometry.specs.declared.params.Params.{Params}
 use Rattle.geometry.specs.declared.params.Lba.{Lba}
 use Rattle.geometry.specs.Params.{further}
 use Rattle.track.specs.Image.{Fits}
 use Rattle.sectors.specs.declared.transfer.Done.{Done}
-use Rattle.sectors.specs.Last.{lastOf}
 use Rattle.sectors.specs.Transfer.{begun, writing}
 use Rattle.sectors.specs.Promises.{HasRead, HasWritten}
-use Rattle.contents.proofs.Laws.{writing-most}
 use Rattle.copying.specs.declared.route.Route.{Route}
 use Rattle.copying.specs.Images.{imageOf}
 use Rattle.pouring.specs.Promises.{WrittenOn, StoredBy}
@@ -43,14 +39,6 @@ module _ (p : Params) (images : List (List ℕ)) (drive k : ℕ) (e : drive ≡ 
 pub further-room : (a b : Lba) (done n limit : ℕ) → b ≡ further a done → a .0 + done + n ≤ limit → b .0 + n ≤ limit
 further-room a b done n limit e h = rw e h
 
--- the data of those written
-pub done-room : (drive : ℕ) (p : Params) (n : ℕ) (a : Lba) (given image : List ℕ) (done : Done) (before after : List (List ℕ))
-    → WrittenOn drive (writing p n a given (begun image)) done before after → n * p .size ≤ length given → done .sectors * p .size ≤ length given
-done-room drive p n a given image done before after w h =
-    let most : done .sectors ≤ n = rw (w .sectors) (writing-most p n a image given) in
-    omega (arith, mul-le-mul-right (p .size) most, h)
-
-pub stored : (r : Route) (done n : ℕ) (given buffer after : List ℕ) (images left : List (List ℕ)) (b : Lba) (d : Done) → b ≡ further (r .b) done
-    → WrittenOn (r .target) (writing (r .q) n b given (begun (imageOf (r .target) images))) d images left
-    → after ≡ splice 0 (lastOf (d .sectors) (r .q .size) given) buffer → StoredBy r done n given buffer images d after left
-stored r done n given buffer after images left b d e w f = record { written = rw e at w; front = f }
+pub stored : (r : Route) (done n : ℕ) (given : List ℕ) (images left : List (List ℕ)) (b : Lba) (d : Done) → b ≡ further (r .b) done
+    → WrittenOn (r .target) (writing (r .q) n b given (begun (imageOf (r .target) images))) d images left → StoredBy r done n given images d left
+stored r done n given images left b d e w = rw e at w

@@ -5,3 +5,4 @@ pub mod Rooms
 pub mod TurnEnds
 pub mod CopyEnds
 pub mod Loops
+pub mod Lasts

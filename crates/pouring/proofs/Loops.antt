@@ -5,7 +5,6 @@ use Prim.Native.Nat.{ℕ, zero, suc, _+_, _-_, _≤_, _<_}
 use native.Mathlib.Omega.{arith}
 use native.Mathlib.Nat.{zero-mul}
 use lib.ListN.{length}
-use Rattle.base.proofs.Parts.{splice-none}
 use Rattle.copying.specs.declared.route.Route.{Route}
 use Rattle.copying.specs.declared.route.Copied.{Copied}
 use Rattle.copying.specs.declared.route.End.{End}
@@ -13,14 +12,14 @@ use Rattle.copying.specs.declared.route.End.the-variants.{Going, SourceFault, T
 use Rattle.copying.specs.Copying.{Copying, copyBegun, unlessEnded, copying, completed, copied}
 use Rattle.copying.proofs.Laws.{copying-more, on-going, on-same, on-self, none-more}
 use Rattle.pouring.specs.declared.turn.Progress.{Progress}
-use Rattle.pouring.specs.Promises.{CopyReady, CopiedBy, scratchLength, standing, Underway, Stood, TurnedTo, NoTurnLeft, CompletedTo}
+use Rattle.pouring.specs.Promises.{RouteReady, WentAs, scratchLength, standing, Underway, Stood, TurnedTo, NoTurnLeft, CompletedTo}
 use Rattle.pouring.proofs.Ends.{going-or-not}
 
--- where the Copy y stands, for a copy that began with `images₀` and the buffer `before`
-pub record Turning (r : Route) (n : ℕ) (images₀ : List (List ℕ)) (before : List ℕ) (s : Progress) (scratch buffer : List ℕ) (images : List (List ℕ)) : Type 0 where
-  pub under : Underway r n s scratch buffer images
+-- where the Copy y stands, for a copy that began with `images₀`
+pub record Turning (r : Route) (n : ℕ) (images₀ : List (List ℕ)) (s : Progress) (scratch : List ℕ) (images : List (List ℕ)) : Type 0 where
+  pub under : Underway r n s scratch images
   pub y : Copying
-  pub stood : Stood r y s scratch before buffer images
+  pub stood : Stood r y s scratch images
   pub whole : completed r (unlessEnded y (λ z. copying r (n - s .read) z)) ≡ copied r n images₀
 
 -- a bound on the turns that are left
@@ -44,8 +43,8 @@ left-ended Short k ne = refl
 abbrev first : Progress
 first = record { read = 0; done = 0; held = 0; end = Going }
 
-module _ (r : Route) (n : ℕ) (images₀ : List (List ℕ)) (before : List ℕ) where
-  pub turning-none : (scratch : List ℕ) → CopyReady r n images₀ before → length scratch ≡ scratchLength → Turning r n images₀ before first scratch before images₀
+module _ (r : Route) (n : ℕ) (images₀ : List (List ℕ)) where
+  pub turning-none : (scratch : List ℕ) → RouteReady r n images₀ → length scratch ≡ scratchLength → Turning r n images₀ first scratch images₀
   turning-none scratch ready long = record {
     under = record {
       source-there = ready .source-there;
@@ -57,16 +56,15 @@ module _ (r : Route) (n : ℕ) (images₀ : List (List ℕ)) (before : List ℕ)
       short = ready .fitting .target-some;
       none = λ e. refl;
       scratch-long = long;
-      buffer-long = ready .whole;
     };
     y = copyBegun images₀;
-    stood = record { last = []; some = omega arith; front = sym (splice-none before); is = refl };
+    stood = record { last = []; is = refl };
     whole =
         let all : n - 0 ≡ n = omega arith in
         ap (completed r) (on-going (copyBegun images₀) (λ z. copying r (n - 0) z) refl ∙ ap (λ (i : ℕ). copying r i (copyBegun images₀)) all);
   }
 
-  module _ (s : Progress) (scratch buffer : List ℕ) (images : List (List ℕ)) (w : Turning r n images₀ before s scratch buffer images) where
+  module _ (s : Progress) (scratch : List ℕ) (images : List (List ℕ)) (w : Turning r n images₀ s scratch images) where
     abbrev x : Copying
     x = standing s scratch images (w .stood .last)
 
@@ -74,17 +72,17 @@ module _ (r : Route) (n : ℕ) (images₀ : List (List ℕ)) (before : List ℕ)
     whole-here = rw (← w .stood .is) (w .whole)
 
     -- ---- another turn
-    module _ (going : s .end ≡ Going) (t : Progress) (scratched after : List ℕ) (left : List (List ℕ)) (turn : TurnedTo r n s scratch buffer images t scratched after left) where
+    module _ (going : s .end ≡ Going) (t : Progress) (scratched : List ℕ) (left : List (List ℕ)) (turn : TurnedTo r n s scratch images t scratched left) where
       abbrev y : Copying
       y = copying r (turn .count) x
 
-      stood : Stood r y t scratched before after left
-      stood = turn .on (w .stood .last) before (w .stood .some) (w .stood .front)
+      stood : Stood r y t scratched left
+      stood = turn .on (w .stood .last)
 
       ends : y .end ≡ t .end
       ends = ap (λ (c : Copying). c .end) (stood .is)
 
-      pub turning-more : Turning r n images₀ before t scratched after left
+      pub turning-more : Turning r n images₀ t scratched left
       turning-more =
           let k = n - s .read - turn .count in
           let all : n - s .read ≡ turn .count + k = omega (arith, turn .most) in
@@ -112,16 +110,15 @@ module _ (r : Route) (n : ℕ) (images₀ : List (List ℕ)) (before : List ℕ)
 
     -- ---- no turn more
     module _ (over : s .end ≡ Going → n ≤ s .read) where
-      pub last-turn : NoTurnLeft r s scratch buffer images
+      pub last-turn : NoTurnLeft r s scratch images
       last-turn = record { count = n; under = w .under; all = λ e. omega (arith, over e, w .under .most e) }
 
-      pub turning-all : (c : Copied) (after : List ℕ) (left : List (List ℕ)) → CompletedTo r s scratch buffer images c after left
-          → CopiedBy (copied r n images₀) c before after left
-      turning-all c after left done =
+      pub turning-all : (c : Copied) (left : List (List ℕ)) → CompletedTo r s scratch images c left → WentAs (copied r n images₀) c left
+      turning-all c left done =
           let is : completed r x ≡ copied r n images₀ =
           ap (completed r)
           (sym (on-self x)
           ∙ on-same x (λ z. z) (λ z. copying r (n - s .read) z)
           (λ e. let none : n - s .read ≡ zero = omega (arith, over e) in sym (ap (λ (i : ℕ). copying r i x) none ∙ none-more r x)))
           ∙ whole-here in
-          rw is at (done (w .stood .last) before (w .stood .some) (w .stood .front))
+          rw is at (done (w .stood .last))

@@ -47,7 +47,7 @@ pub some-bytes : (n size : ℕ) → 1 ≤ n → 0 < size → 0 < n * size
 some-bytes n size hn hs = omega (arith, times-some n size hs, hn)
 
 -- ---- the bounds of a turn
-module _ (r : Route) (n : ℕ) (s : Progress) (scratch buffer : List ℕ) (images : List (List ℕ)) (u : Underway r n s scratch buffer images)
+module _ (r : Route) (n : ℕ) (s : Progress) (scratch : List ℕ) (images : List (List ℕ)) (u : Underway r n s scratch images)
     (going : s .end ≡ Going) where
   -- what waits is as long as it says
   pub held-long : length (take (s .held) scratch) ≡ s .held

@@ -15,7 +15,6 @@ use Rattle.base.proofs.Decide.{pick-true, pick-false}
 use Rattle.geometry.specs.declared.params.Lba.{Lba}
 use Rattle.geometry.specs.Params.{addressCount, further}
 use Rattle.sectors.specs.declared.transfer.Done.{Done}
-use Rattle.sectors.specs.Last.{lastOf}
 use Rattle.sectors.specs.Transfer.{Transfer}
 use Rattle.sectors.specs.Promises.{HasRead}
 use Rattle.sectors.proofs.Laws.{Handed, reading-handed, front-lent}
@@ -32,7 +31,7 @@ use Rattle.pouring.proofs.Ends.{source-ended, target-ended}
 use Rattle.pouring.proofs.Fronts.{put-behind, left-over}
 use Rattle.pouring.proofs.Rooms.{held-long, stands-even, stands-short, in-turn, turn-fits, read-fits}
 
-module _ (r : Route) (n : ℕ) (s : Progress) (scratch buffer : List ℕ) (images : List (List ℕ)) (u : Underway r n s scratch buffer images)
+module _ (r : Route) (n : ℕ) (s : Progress) (scratch : List ℕ) (images : List (List ℕ)) (u : Underway r n s scratch images)
     (going : s .end ≡ Going) (l : s .read < n) (m : ℕ) (hm : (1 ≤ m) × (m ≤ n - s .read) × (m * r .p .size ≤ turnMost)) where
   abbrev x : List ℕ → Copying
   x last = standing s scratch images last
@@ -40,8 +39,8 @@ module _ (r : Route) (n : ℕ) (s : Progress) (scratch buffer : List ℕ) (image
   -- what the turn leaves, whatever was written last
   turn-of : (last : List ℕ) → Turn r n (x last) m (copying r m (x last))
   turn-of last =
-      turned r n (x last) (u .fitting) going (stands-even r n s scratch buffer images u going last) (stands-short r n s scratch buffer images u going)
-      m (in-turn r n s scratch buffer images u going m hm l)
+      turned r n (x last) (u .fitting) going (stands-even r n s scratch images u going last) (stands-short r n s scratch images u going)
+      m (in-turn r n s scratch images u going m hm l)
 
   abbrev S : Transfer
   S = turnRead r (x []) m
@@ -70,7 +69,7 @@ module _ (r : Route) (n : ℕ) (s : Progress) (scratch buffer : List ℕ) (image
     handed : Handed (r .p) m (imageOf (r .source) images) S
     handed =
         reading-handed (r .p) _ (u .fitting .source-fits) m (further (r .a) (s .read))
-        (omega (arith, in-turn r n s scratch buffer images u going m hm l, u .fitting .source-on))
+        (omega (arith, in-turn r n s scratch images u going m hm l, u .fitting .source-on))
 
     pub read-most : source .sectors ≤ m
     read-most = rw (is .sectors) (handed .most)
@@ -79,7 +78,7 @@ module _ (r : Route) (n : ℕ) (s : Progress) (scratch buffer : List ℕ) (image
     long = handed .long ∙ ap (λ (c : ℕ). c * r .p .size) (sym (is .sectors))
 
     room : s .held + m * r .p .size ≤ length scratch
-    room = omega (arith, turn-fits r n s scratch buffer images u going m hm l, u .scratch-long)
+    room = omega (arith, turn-fits r n s scratch images u going m hm l, u .scratch-long)
 
     few : length (S .handed) ≤ m * r .p .size
     few = omega (arith, handed .long, mul-le-mul-right (r .p .size) (handed .most))
@@ -100,7 +99,7 @@ module _ (r : Route) (n : ℕ) (s : Progress) (scratch buffer : List ℕ) (image
     given-is = let e : filled - 0 ≡ filled = omega arith in ap (λ (i : ℕ). take i scratch₁) e ∙ front
 
     count : filled ≡ length bytes
-    count = omega (arith, long, length-append (take (s .held) scratch) (S .handed), held-long r n s scratch buffer images u going)
+    count = omega (arith, long, length-append (take (s .held) scratch) (S .handed), held-long r n s scratch images u going)
 
     full : filled / size ≡ turnFull r (x []) m
     full = ap (λ (i : ℕ). i / size) count
@@ -110,20 +109,17 @@ module _ (r : Route) (n : ℕ) (s : Progress) (scratch buffer : List ℕ) (image
 
     pub stores-on : r .b .0 + s .done + filled / size ≤ addressCount (r .q)
     stores-on =
-        let room = turn-room r n (x []) (u .fitting) going (stands-even r n s scratch buffer images u going []) (stands-short r n s scratch buffer images u going)
-        m (in-turn r n s scratch buffer images u going m hm l) in
+        let room = turn-room r n (x []) (u .fitting) going (stands-even r n s scratch images u going []) (stands-short r n s scratch images u going)
+        m (in-turn r n s scratch images u going m hm l) in
         omega (arith, room, full, u .fitting .target-on)
 
     -- ---- stored
-    module _ (target : Done) (buffered : List ℕ) (left : List (List ℕ)) (stored : StoredBy r (s .done) (filled / size) given buffer images target buffered left) where
+    module _ (target : Done) (left : List (List ℕ)) (stored : StoredBy r (s .done) (filled / size) given images target left) where
       written : WrittenOn (r .target) W target images left
-      written = rw (given-is, full) at (stored .written)
+      written = rw (given-is, full) at stored
 
       pub stored-most : target .sectors ≤ filled / size
       stored-most = rw full (rw (written .sectors) (writing-most (r .q) (turnFull r (x []) m) (further (r .b) (s .done)) (imageOf (r .target) images) bytes))
-
-      last-front : buffered ≡ splice 0 (lastOf (W .done) size bytes) buffer
-      last-front = rw (given-is, written .sectors) at (stored .front)
 
       -- ---- moved to the front
       abbrev used : ℕ
@@ -131,7 +127,7 @@ module _ (r : Route) (n : ℕ) (s : Progress) (scratch buffer : List ℕ) (image
 
       module _ (scratched : List ℕ) (moved : scratched ≡ splice 0 (part used (filled - used) scratch₁) scratch₁) where
         fits : filled ≤ length scratch₁
-        fits = omega (arith, lent-long, read-fits r n s scratch buffer images u going m hm l (source .sectors) read-most)
+        fits = omega (arith, lent-long, read-fits r n s scratch images u going m hm l (source .sectors) read-most)
 
         pub moved-long : length scratched ≡ scratchLength
         moved-long =
@@ -145,111 +141,106 @@ module _ (r : Route) (n : ℕ) (s : Progress) (scratch buffer : List ℕ) (image
             left-over used filled scratch₁ scratched (div-mul-le-self filled size) fits moved
             ∙ ap (drop used) front ∙ ap (λ (i : ℕ). drop (i * size) bytes) full
 
-        module _ (whole : length buffered ≡ 512) where
-          -- the turn has come to t
-          stood : (t : Progress) → t .held < size → ((t .end ≡ Going → ⊥) → t .held ≡ 0)
-              → (t .end ≡ Going → (t .read ≡ s .read + m) × (t .read * r .p .size ≡ t .done * size + t .held)) → t .done ≡ s .done + target .sectors
-              → ((last : List ℕ) → (copying r m (x last) .read ≡ t .read) × (copying r m (x last) .end ≡ t .end) × (copying r m (x last) .rest ≡ take (t .held) scratched))
-              → TurnedTo r n s scratch buffer images t scratched buffered left
-          stood t short none even done fields =
-              let images-are : (last : List ℕ) → copying r m (x last) .images ≡ left = λ last. turn-of last .images ∙ sym (written .images) in
-              record {
-                count = m;
-                some = hm .0;
-                most = in-turn r n s scratch buffer images u going m hm l;
-                counted = λ e. even e .0;
-                under = record {
-                  source-there = u .source-there;
-                  target-there = u .target-there;
-                  few = u .few;
-                  fitting = rw (images-are []) at (turn-of [] .fitting);
-                  most = λ e. omega (arith, even e .0, in-turn r n s scratch buffer images u going m hm l);
-                  even = λ e. even e .1;
-                  short = short;
-                  none = none;
-                  scratch-long = moved-long;
-                  buffer-long = whole;
-                };
-                on = λ last before few e.
-                    let f = turn-of last .front few in
-                    let dones : copying r m (x last) .done ≡ t .done = turn-of last .done ∙ omega (arith, done, written .sectors) in
-                    let is-left = images-are last in
-                    let is-read = fields last .0 in
-                    let is-end = fields last .1 in
-                    let is-rest = fields last .2 in
-                    record {
+        -- the turn has come to t
+        stood : (t : Progress) → t .held < size → ((t .end ≡ Going → ⊥) → t .held ≡ 0)
+            → (t .end ≡ Going → (t .read ≡ s .read + m) × (t .read * r .p .size ≡ t .done * size + t .held)) → t .done ≡ s .done + target .sectors
+            → ((last : List ℕ) → (copying r m (x last) .read ≡ t .read) × (copying r m (x last) .end ≡ t .end) × (copying r m (x last) .rest ≡ take (t .held) scratched))
+            → TurnedTo r n s scratch images t scratched left
+        stood t short none even done fields =
+            let images-are : (last : List ℕ) → copying r m (x last) .images ≡ left = λ last. turn-of last .images ∙ sym (written .images) in
+            record {
+              count = m;
+              some = hm .0;
+              most = in-turn r n s scratch images u going m hm l;
+              counted = λ e. even e .0;
+              under = record {
+                source-there = u .source-there;
+                target-there = u .target-there;
+                few = u .few;
+                fitting = rw (images-are []) at (turn-of [] .fitting);
+                most = λ e. omega (arith, even e .0, in-turn r n s scratch images u going m hm l);
+                even = λ e. even e .1;
+                short = short;
+                none = none;
+                scratch-long = moved-long;
+              };
+              on = λ last.
+                  let dones : copying r m (x last) .done ≡ t .done = turn-of last .done ∙ omega (arith, done, written .sectors) in
+                  let is-left = images-are last in
+                  let is-read = fields last .0 in
+                  let is-end = fields last .1 in
+                  let is-rest = fields last .2 in
+                  record {
+                    last = copying r m (x last) .last;
+                    is = λ i. record {
+                      read = is-read i;
+                      done = dones i;
+                      rest = is-rest i;
                       last = copying r m (x last) .last;
-                      some = f .few;
-                      front = last-front ∙ ap (splice 0 (lastOf (W .done) size bytes)) e ∙ f .over before;
-                      is = λ i. record {
-                        read = is-read i;
-                        done = dones i;
-                        rest = is-rest i;
-                        last = copying r m (x last) .last;
-                        images = is-left i;
-                        end = is-end i;
-                      };
+                      images = is-left i;
+                      end = is-end i;
                     };
-              }
+                  };
+            }
 
-          abbrev To : Progress → Type 0
-          To t = TurnedTo r n s scratch buffer images t scratched buffered left
+        abbrev To : Progress → Type 0
+        To t = TurnedTo r n s scratch images t scratched left
 
-          -- a destination fault
-          at-target : (target .code ≡ 0 → ⊥)
-              → To (record { read = filledBy (s .done + target .sectors + 1) size (r .p .size); done = s .done + target .sectors; held = 0; end = TargetFault (target .code) })
-          at-target failed =
-              stood _ (u .fitting .target-some) (λ z. refl) (λ z. absurd (target-ended (target .code) z)) refl
+        -- a destination fault
+        at-target : (target .code ≡ 0 → ⊥)
+            → To (record { read = filledBy (s .done + target .sectors + 1) size (r .p .size); done = s .done + target .sectors; held = 0; end = TargetFault (target .code) })
+        at-target failed =
+            stood _ (u .fitting .target-some) (λ z. refl) (λ z. absurd (target-ended (target .code) z)) refl
+            (λ last.
+            let t = turn-of last .target (λ z. failed (written .code ∙ z)) in
+            let dones : suc (copying r m (x last) .done) ≡ s .done + target .sectors + 1 = omega (arith, turn-of last .done, written .sectors) in (
+              t .2 ∙ ap (λ (i : ℕ). filledBy i size (r .p .size)) dones,
+              t .0 ∙ ap TargetFault (sym (written .code)),
+              t .1,
+            ))
+
+        module _ (good : target .code ≡ 0) where
+          wrote-all : W .code ≡ 0
+          wrote-all = sym (written .code) ∙ good
+
+          -- a source fault
+          at-source : (source .code ≡ 0 → ⊥)
+              → To (record { read = s .read + source .sectors; done = s .done + target .sectors; held = 0; end = SourceFault (source .code) })
+          at-source failed =
+              stood _ (u .fitting .target-some) (λ z. refl) (λ z. absurd (source-ended (source .code) z)) refl
               (λ last.
-              let t = turn-of last .target (λ z. failed (written .code ∙ z)) in
-              let dones : suc (copying r m (x last) .done) ≡ s .done + target .sectors + 1 = omega (arith, turn-of last .done, written .sectors) in (
-                t .2 ∙ ap (λ (i : ℕ). filledBy i size (r .p .size)) dones,
-                t .0 ∙ ap TargetFault (sym (written .code)),
+              let t = turn-of last .source wrote-all (λ z. failed (is .code ∙ z)) in (
+                t .2 ∙ omega (arith, is .sectors),
+                t .0 ∙ ap SourceFault (sym (is .code)),
                 t .1,
               ))
 
-          module _ (good : target .code ≡ 0) where
-            wrote-all : W .code ≡ 0
-            wrote-all = sym (written .code) ∙ good
+          -- none
+          at-none : source .code ≡ 0
+              → To (record { read = s .read + source .sectors; done = s .done + target .sectors; held = filled - used; end = Going })
+          at-none fine =
+              let read-all : S .code ≡ 0 = sym (is .code) ∙ fine in
+              let whole-turn : source .sectors ≡ m = is .sectors ∙ handed .all read-all in
+              let t = turn-of [] .even wrote-all read-all in
+              let y = copying r m (x []) in
+              let rest : y .rest ≡ take (filled - used) scratched = turn-of [] .whole wrote-all read-all .1 ∙ sym rest-is in
+              let waits : length (y .rest) ≡ filled - used = ap length rest ∙ length-take-le (filled - used) scratched (omega (arith, fits, lent-long, moved-long)) in
+              let reads : y .read ≡ s .read + source .sectors = turn-of [] .whole wrote-all read-all .2 ∙ omega (arith, whole-turn) in
+              let dones : y .done ≡ s .done + target .sectors = turn-of [] .done ∙ omega (arith, written .sectors) in
+              let evens : (s .read + source .sectors) * r .p .size ≡ (s .done + target .sectors) * size + (filled - used) =
+              rw (reads, dones, waits) at (t .0) in
+              stood _ (rw waits at (t .1)) (λ z. absurd (z refl)) (λ z. (omega (arith, whole-turn), evens)) refl
+              (λ last.
+              let w = turn-of last .whole wrote-all read-all in (w .2 ∙ omega (arith, whole-turn), w .0, w .1 ∙ sym rest-is))
 
-            -- a source fault
-            at-source : (source .code ≡ 0 → ⊥)
-                → To (record { read = s .read + source .sectors; done = s .done + target .sectors; held = 0; end = SourceFault (source .code) })
-            at-source failed =
-                stood _ (u .fitting .target-some) (λ z. refl) (λ z. absurd (source-ended (source .code) z)) refl
-                (λ last.
-                let t = turn-of last .source wrote-all (λ z. failed (is .code ∙ z)) in (
-                  t .2 ∙ omega (arith, is .sectors),
-                  t .0 ∙ ap SourceFault (sym (is .code)),
-                  t .1,
-                ))
+        pub turned-to : (t : Progress) → t ≡ afterTurn r s source target (filled - used) → To t
+        unfolding afterTurn
+        turned-to t e = rw e (by (ℕ-discrete (target .code) 0))
+          where
+            good : target .code ≡ 0 → Dec (source .code ≡ 0) → To (afterTurn r s source target (filled - used))
+            good z (yes y) = rw (pick-true _ _ _ (eq-eqb _ _ z), pick-true _ _ _ (eq-eqb _ _ y)) (at-none z y)
+            good z (no y) = rw (pick-true _ _ _ (eq-eqb _ _ z), pick-false _ _ _ (ne-eqb _ _ y)) (at-source z y)
 
-            -- none
-            at-none : source .code ≡ 0
-                → To (record { read = s .read + source .sectors; done = s .done + target .sectors; held = filled - used; end = Going })
-            at-none fine =
-                let read-all : S .code ≡ 0 = sym (is .code) ∙ fine in
-                let whole-turn : source .sectors ≡ m = is .sectors ∙ handed .all read-all in
-                let t = turn-of [] .even wrote-all read-all in
-                let y = copying r m (x []) in
-                let rest : y .rest ≡ take (filled - used) scratched = turn-of [] .whole wrote-all read-all .1 ∙ sym rest-is in
-                let waits : length (y .rest) ≡ filled - used = ap length rest ∙ length-take-le (filled - used) scratched (omega (arith, fits, lent-long, moved-long)) in
-                let reads : y .read ≡ s .read + source .sectors = turn-of [] .whole wrote-all read-all .2 ∙ omega (arith, whole-turn) in
-                let dones : y .done ≡ s .done + target .sectors = turn-of [] .done ∙ omega (arith, written .sectors) in
-                let evens : (s .read + source .sectors) * r .p .size ≡ (s .done + target .sectors) * size + (filled - used) =
-                rw (reads, dones, waits) at (t .0) in
-                stood _ (rw waits at (t .1)) (λ z. absurd (z refl)) (λ z. (omega (arith, whole-turn), evens)) refl
-                (λ last.
-                let w = turn-of last .whole wrote-all read-all in (w .2 ∙ omega (arith, whole-turn), w .0, w .1 ∙ sym rest-is))
-
-          pub turned-to : (t : Progress) → t ≡ afterTurn r s source target (filled - used) → To t
-          unfolding afterTurn
-          turned-to t e = rw e (by (ℕ-discrete (target .code) 0))
-            where
-              good : target .code ≡ 0 → Dec (source .code ≡ 0) → To (afterTurn r s source target (filled - used))
-              good z (yes y) = rw (pick-true _ _ _ (eq-eqb _ _ z), pick-true _ _ _ (eq-eqb _ _ y)) (at-none z y)
-              good z (no y) = rw (pick-true _ _ _ (eq-eqb _ _ z), pick-false _ _ _ (ne-eqb _ _ y)) (at-source z y)
-
-              by : Dec (target .code ≡ 0) → To (afterTurn r s source target (filled - used))
-              by (yes z) = good z (ℕ-discrete (source .code) 0)
-              by (no z) = rw (pick-false _ _ _ (ne-eqb _ _ z)) (at-target z)
+            by : Dec (target .code ≡ 0) → To (afterTurn r s source target (filled - used))
+            by (yes z) = good z (ℕ-discrete (source .code) 0)
+            by (no z) = rw (pick-false _ _ _ (ne-eqb _ _ z)) (at-target z)

@@ -1,15 +1,14 @@
 -- What copying on the four images promises, and what its parts promise each other.
-use Prim.Native.Nat.{ℕ, _+_, _*_, _≤_, _<_}
+use Prim.Native.Nat.{ℕ, zero, suc, _+_, _*_, _≤_, _<_}
 use mathlib.Core.Path.{_≡_}
-use mathlib.Core.List.{List}
+use mathlib.Core.List.{List, []}
 use lib.ListN.{length, take, set}
 use lib.Dec.{eqb}
 use Rattle.base.specs.Pick.{pick}
 use Rattle.base.specs.Part.{splice}
 use Rattle.geometry.specs.Params.{further}
 use Rattle.sectors.specs.declared.transfer.Done.{Done}
-use Rattle.sectors.specs.Last.{lastOf}
-use Rattle.sectors.specs.Transfer.{Transfer, begun, writing}
+use Rattle.sectors.specs.Transfer.{Transfer, begun, reading, writing}
 use Rattle.copying.specs.declared.route.Route.{Route}
 use Rattle.copying.specs.declared.route.Copied.{Copied}
 use Rattle.copying.specs.declared.route.End.the-variants.{Going, SourceFault, TargetFault, Short}
@@ -19,12 +18,16 @@ use Rattle.copying.specs.Listwise.{filledBy, Fitting}
 use Rattle.pouring.specs.declared.turn.Progress.{Progress}
 
 -- ---- all of it
--- Two of the four drives, at most 256 source sectors, both ranges on their drives and apart, and a buffer of 512 bytes.
-pub record CopyReady (r : Route) (n : ℕ) (images : List (List ℕ)) (buffer : List ℕ) : Type 0 where
+-- Two of the four drives, at most 256 source sectors, both ranges on their drives and apart.
+pub record RouteReady (r : Route) (n : ℕ) (images : List (List ℕ)) : Type 0 where
   pub source-there : r .source < 4
   pub target-there : r .target < 4
   pub most : n ≤ 256
   pub fitting : Fitting r n images
+
+-- And a buffer of 512 bytes.
+pub record CopyReady (r : Route) (n : ℕ) (images : List (List ℕ)) (buffer : List ℕ) : Type 0 where
+  pub route : RouteReady r n images
   pub whole : length buffer ≡ 512
 
 -- How far it came and why it ended, the front of the buffer, and every byte of the images: as the copy x says.
@@ -35,6 +38,13 @@ pub record CopiedBy (x : Copying) (copied : Copied) (before after : List ℕ) (i
   pub front : after ≡ splice 0 (x .last) before
   pub left : images ≡ x .images
 
+-- The same but for the buffer.
+pub record WentAs (x : Copying) (copied : Copied) (images : List (List ℕ)) : Type 0 where
+  pub read : copied .read ≡ x .read
+  pub done : copied .done ≡ x .done
+  pub end : copied .end ≡ x .end
+  pub left : images ≡ x .images
+
 -- ---- sectors of one of the images
 -- How far it came and why it ended, and the images, of which one is changed: as the transfer x says.
 pub record WrittenOn (drive : ℕ) (x : Transfer) (done : Done) (before after : List (List ℕ)) : Type 0 where
@@ -42,10 +52,15 @@ pub record WrittenOn (drive : ℕ) (x : Transfer) (done : Done) (before after : 
   pub code : done .code ≡ x .code
   pub images : after ≡ set before drive (x .image)
 
--- n destination sectors behind `done`: written, and the last at the buffer's front
-pub record StoredBy (r : Route) (done n : ℕ) (given buffer : List ℕ) (images : List (List ℕ)) (d : Done) (after : List ℕ) (left : List (List ℕ)) : Type 0 where
-  pub written : WrittenOn (r .target) (writing (r .q) n (further (r .b) done) given (begun (imageOf (r .target) images))) d images left
-  pub front : after ≡ splice 0 (lastOf (d .sectors) (r .q .size) given) buffer
+-- n destination sectors behind `done`
+abbrev pub StoredBy : Route → (done n : ℕ) → (given : List ℕ) → (images : List (List ℕ)) → Done → (left : List (List ℕ)) → Type 0
+StoredBy r done n given images d left =
+    WrittenOn (r .target) (writing (r .q) n (further (r .b) done) given (begun (imageOf (r .target) images))) d images left
+
+-- what a Read of the last destination sector done hands over
+unfoldable pub lastRead : Route → (done : ℕ) → (images : List (List ℕ)) → List ℕ
+lastRead r zero images = []
+lastRead r (suc m) images = reading (r .q) 1 (further (r .b) m) (begun (imageOf (r .target) images)) .handed
 
 -- ---- a turn
 -- source bytes of one turn, at the most
@@ -62,7 +77,7 @@ standing s scratch images last =
     record { read = s .read; done = s .done; rest = take (s .held) scratch; last = last; images = images; end = s .end }
 
 -- A copy of n source sectors can go on from here: every byte read is written or waits, and less than a sector waits.
-pub record Underway (r : Route) (n : ℕ) (s : Progress) (scratch buffer : List ℕ) (images : List (List ℕ)) : Type 0 where
+pub record Underway (r : Route) (n : ℕ) (s : Progress) (scratch : List ℕ) (images : List (List ℕ)) : Type 0 where
   pub source-there : r .source < 4
   pub target-there : r .target < 4
   pub few : n ≤ 256
@@ -72,7 +87,6 @@ pub record Underway (r : Route) (n : ℕ) (s : Progress) (scratch buffer : List 
   pub short : s .held < r .q .size
   pub none : (s .end ≡ Going → ⊥) → s .held ≡ 0
   pub scratch-long : length scratch ≡ scratchLength
-  pub buffer-long : length buffer ≡ 512
 
 -- how far a turn came, by its Read and its Write, with `held` bytes left
 unfoldable pub afterTurn : Route → Progress → (source target : Done) → (held : ℕ) → Progress
@@ -88,23 +102,20 @@ afterTurn r s source target held =
       end = TargetFault (target .code);
     })
 
--- the Copy y stands here, and its last sector is at the front of the buffer, which was `before` when the Copy began
-pub record Stood (r : Route) (y : Copying) (t : Progress) (scratch before buffer : List ℕ) (images : List (List ℕ)) : Type 0 where
+-- the Copy y stands here, whatever it wrote last
+pub record Stood (r : Route) (y : Copying) (t : Progress) (scratch : List ℕ) (images : List (List ℕ)) : Type 0 where
   pub last : List ℕ
-  pub some : length last ≤ r .q .size
-  pub front : buffer ≡ splice 0 last before
   pub is : y ≡ standing t scratch images last
 
 -- A turn: some source sectors more, whatever was written last.
-pub record TurnedTo (r : Route) (n : ℕ) (s : Progress) (scratch buffer : List ℕ) (images : List (List ℕ))
-    (t : Progress) (scratched after : List ℕ) (left : List (List ℕ)) : Type 0 where
+pub record TurnedTo (r : Route) (n : ℕ) (s : Progress) (scratch : List ℕ) (images : List (List ℕ))
+    (t : Progress) (scratched : List ℕ) (left : List (List ℕ)) : Type 0 where
   pub count : ℕ
   pub some : 1 ≤ count
   pub most : s .read + count ≤ n
   pub counted : t .end ≡ Going → t .read ≡ s .read + count
-  pub under : Underway r n t scratched after left
-  pub on : (last before : List ℕ) → length last ≤ r .q .size → buffer ≡ splice 0 last before
-      → Stood r (copying r count (standing s scratch images last)) t scratched before after left
+  pub under : Underway r n t scratched left
+  pub on : (last : List ℕ) → Stood r (copying r count (standing s scratch images last)) t scratched left
 
 -- ---- the end
 -- by the Write of the last sector
@@ -114,13 +125,11 @@ endedBy s target =
     (record { read = s .read; done = s .done + target .sectors; end = TargetFault (target .code) })
 
 -- the copy has ended, or all its source sectors are read
-pub record NoTurnLeft (r : Route) (s : Progress) (scratch buffer : List ℕ) (images : List (List ℕ)) : Type 0 where
+pub record NoTurnLeft (r : Route) (s : Progress) (scratch : List ℕ) (images : List (List ℕ)) : Type 0 where
   pub count : ℕ
-  pub under : Underway r count s scratch buffer images
+  pub under : Underway r count s scratch images
   pub all : s .end ≡ Going → s .read ≡ count
 
 -- The copy is complete, whatever was written last.
-abbrev pub CompletedTo : Route → Progress → (scratch buffer : List ℕ) → (images : List (List ℕ)) → Copied → (after : List ℕ) → (left : List (List ℕ)) → Type 0
-CompletedTo r s scratch buffer images c after left =
-    (last before : List ℕ) → length last ≤ r .q .size → buffer ≡ splice 0 last before
-    → CopiedBy (completed r (standing s scratch images last)) c before after left
+abbrev pub CompletedTo : Route → Progress → (scratch : List ℕ) → (images : List (List ℕ)) → Copied → (left : List (List ℕ)) → Type 0
+CompletedTo r s scratch images c left = (last : List ℕ) → WentAs (completed r (standing s scratch images last)) c left

@@ -1,4 +1,5 @@
 // Copy Blocks, turn after turn; the bytes that wait in the end are completed with zeros.
+use crate::images::keep_done;
 use crate::images::store_sectors;
 use crate::turn::Progress;
 use crate::turn::SCRATCH;
@@ -15,7 +16,7 @@ ghost use lib.ListN.{length};
 ghost use Rattle.copying.specs.declared.route.End.the-variants.{Going};
 ghost use Rattle.copying.specs.Images.{imagesOf};
 ghost use Rattle.copying.specs.Copying.{copied};
-ghost use Rattle.pouring.specs.Promises.{CopyReady, CopiedBy, scratchLength, endedBy, NoTurnLeft, CompletedTo};
+ghost use Rattle.pouring.specs.Promises.{RouteReady, CopyReady, CopiedBy, WentAs, scratchLength, endedBy, NoTurnLeft, CompletedTo};
 
 // Whether there is another turn.
 fn goes_on(s: Progress, n: usize) -> bool
@@ -55,16 +56,15 @@ fn complete(
     r: Route,
     s: Progress,
     scratch: &mut [u8],
-    buffer: &mut [u8],
     image0: &mut [u8],
     image1: &mut [u8],
     image2: &mut [u8],
     image3: &mut [u8],
 ) -> Copied
-    requires { ⌜ NoTurnLeft r s (now scratch) (now buffer) (imagesOf (now image0) (now image1) (now image2) (now image3)) ⌝ }
-    ensures { λ c. ⌜ CompletedTo r s (now (scratch .entry)) (now (buffer .entry))
+    requires { ⌜ NoTurnLeft r s (now scratch) (imagesOf (now image0) (now image1) (now image2) (now image3)) ⌝ }
+    ensures { λ c. ⌜ CompletedTo r s (now (scratch .entry))
         (imagesOf (now (image0 .entry)) (now (image1 .entry)) (now (image2 .entry)) (now (image3 .entry)))
-        c (now (buffer .exit)) (imagesOf (now (image0 .exit)) (now (image1 .exit)) (now (image2 .exit)) (now (image3 .exit))) ⌝ }
+        c (imagesOf (now (image0 .exit)) (now (image1 .exit)) (now (image2 .exit)) (now (image3 .exit))) ⌝ }
 {
     let held = s.held;
     if held == 0 {
@@ -82,7 +82,6 @@ fn complete(
         s.done,
         1,
         &scratch[0..size],
-        buffer,
         image0,
         image1,
         image2,
@@ -96,16 +95,14 @@ fn copy_through(
     r: Route,
     n: usize,
     scratch: &mut [u8],
-    buffer: &mut [u8],
     image0: &mut [u8],
     image1: &mut [u8],
     image2: &mut [u8],
     image3: &mut [u8],
 ) -> Copied
-    requires { ⌜ CopyReady r n (imagesOf (now image0) (now image1) (now image2) (now image3)) (now buffer)
-        × (length (now scratch) ≡ scratchLength) ⌝ }
-    ensures { λ c. ⌜ CopiedBy (copied r n (imagesOf (now (image0 .entry)) (now (image1 .entry)) (now (image2 .entry)) (now (image3 .entry)))) c
-        (now (buffer .entry)) (now (buffer .exit)) (imagesOf (now (image0 .exit)) (now (image1 .exit)) (now (image2 .exit)) (now (image3 .exit))) ⌝ }
+    requires { ⌜ RouteReady r n (imagesOf (now image0) (now image1) (now image2) (now image3)) × (length (now scratch) ≡ scratchLength) ⌝ }
+    ensures { λ c. ⌜ WentAs (copied r n (imagesOf (now (image0 .entry)) (now (image1 .entry)) (now (image2 .entry)) (now (image3 .entry)))) c
+        (imagesOf (now (image0 .exit)) (now (image1 .exit)) (now (image2 .exit)) (now (image3 .exit))) ⌝ }
 {
     let mut s = Progress {
         read: 0,
@@ -114,9 +111,9 @@ fn copy_through(
         end: End::Going,
     };
     while goes_on(s, n) {
-        s = turn(r, n, s, scratch, buffer, image0, image1, image2, image3);
+        s = turn(r, n, s, scratch, image0, image1, image2, image3);
     }
-    complete(r, s, scratch, buffer, image0, image1, image2, image3)
+    complete(r, s, scratch, image0, image1, image2, image3)
 }
 
 // n source sectors along a route, on the four images; the last sector written is at the buffer's front.
@@ -134,14 +131,15 @@ pub fn copy_sectors(
         (now (buffer .entry)) (now (buffer .exit)) (imagesOf (now (image0 .exit)) (now (image1 .exit)) (now (image2 .exit)) (now (image3 .exit))) ⌝ }
 {
     let mut scratch = [0u8; SCRATCH];
-    copy_through(
+    let copied = copy_through(
         r,
         n,
         &mut scratch[0..SCRATCH],
-        buffer,
         image0,
         image1,
         image2,
         image3,
-    )
+    );
+    keep_done(r, copied.done, buffer, image0, image1, image2, image3);
+    copied
 }

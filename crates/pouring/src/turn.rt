@@ -113,18 +113,16 @@ pub fn turn(
     n: usize,
     s: Progress,
     scratch: &mut [u8],
-    buffer: &mut [u8],
     image0: &mut [u8],
     image1: &mut [u8],
     image2: &mut [u8],
     image3: &mut [u8],
 ) -> Progress
-    requires { ⌜ Underway r n s (now scratch) (now buffer) (imagesOf (now image0) (now image1) (now image2) (now image3))
+    requires { ⌜ Underway r n s (now scratch) (imagesOf (now image0) (now image1) (now image2) (now image3))
         × (s .end ≡ Going) × (s .read < n) ⌝ }
-    ensures { λ t. ⌜ TurnedTo r n s (now (scratch .entry)) (now (buffer .entry))
+    ensures { λ t. ⌜ TurnedTo r n s (now (scratch .entry))
         (imagesOf (now (image0 .entry)) (now (image1 .entry)) (now (image2 .entry)) (now (image3 .entry)))
-        t (now (scratch .exit)) (now (buffer .exit))
-        (imagesOf (now (image0 .exit)) (now (image1 .exit)) (now (image2 .exit)) (now (image3 .exit))) ⌝ }
+        t (now (scratch .exit)) (imagesOf (now (image0 .exit)) (now (image1 .exit)) (now (image2 .exit)) (now (image3 .exit))) ⌝ }
 {
     let p = r.p;
     let from = r.a;
@@ -150,7 +148,6 @@ pub fn turn(
         s.done,
         full,
         &scratch[0..filled],
-        buffer,
         image0,
         image1,
         image2,

@@ -17,8 +17,6 @@ use Rattle.geometry.specs.declared.config.Setting.the-variants.{Valid}
 use Rattle.geometry.specs.Params.{further}
 use Rattle.geometry.specs.Medium.{mediumOf}
 use Rattle.sectors.specs.Transfer.{Transfer, begun}
-use Rattle.sectors.specs.Last.{lastOf}
-use Rattle.sectors.proofs.Laws.{writing-taken}
 use Rattle.contents.specs.Content.{Bytes, contentOf}
 use Rattle.contents.proofs.Laws.{putAll, writing-puts}
 use Rattle.copying.specs.declared.route.Route.{Route}
@@ -26,7 +24,7 @@ use Rattle.copying.specs.declared.route.End.{End}
 use Rattle.copying.specs.declared.route.End.the-variants.{Going, SourceFault, TargetFault, Short}
 use Rattle.copying.specs.Copying.{Copying, copied}
 use Rattle.copying.specs.Listwise.{readAll, sectorsFor, Fitting}
-use Rattle.copying.proofs.Laws.{copied-listwise, copied-target, copied-others, copied-given, given-all}
+use Rattle.copying.proofs.Laws.{copied-listwise, copied-target, copied-others, last-none, last-reads, given-all}
 use Rattle.model.specs.declared.block.CopyBlock.{CopyBlock}
 use Rattle.model.specs.declared.record.Drive.{Drive}
 use Rattle.model.specs.declared.record.Controller.{Controller}
@@ -164,15 +162,6 @@ module _ (r : Route) (n : ℕ) (images : List (List ℕ)) (fit : Fitting r n ima
       (fit .target-fits .long) (enough .on-drive) (enough .enough)
       .outside)
 
-  -- ---- The last sector done
-  its-last : copied r n images .last ≡ lastOf (copied r n images .done) (r .q .size) (x .handed ++ replicate (r .q .size) 0)
-  its-last =
-      let is = copied-listwise r n images fit in
-      let given = x .handed ++ replicate (r .q .size) 0 in
-      ap (λ (y : Copying). y .last) is
-      ∙ writing-taken (r .q) (sectorsFor r n (x .done)) (r .b) given (imageOf (r .target) images) .last
-      ∙ ap (λ (m : ℕ). lastOf m (r .q .size) given) (sym (ap (λ (y : Copying). y .done) is))
-
   -- no sector done: no byte of the destination's image has changed
   target-none : copied r n images .done ≡ 0 → imageOf (r .target) (copied r n images .images) ≡ imageOf (r .target) images
   unfolding putAll
@@ -182,18 +171,6 @@ module _ (r : Route) (n : ℕ) (images : List (List ℕ)) (fit : Fitting r n ima
       copied-target r n images fit
       ∙ writing-puts (r .q) (sectorsFor r n (x .done)) (r .b) (imageOf (r .target) images) given
       ∙ ap (λ (m : ℕ). putAll (r .q) m (r .b) given (imageOf (r .target) images)) none
-
-  last-none : copied r n images .done ≡ 0 → copied r n images .last ≡ []
-  unfolding lastOf
-  last-none e = its-last ∙ ap (λ (m : ℕ). lastOf m (r .q .size) (x .handed ++ replicate (r .q .size) 0)) e
-
-  -- it reads so
-  last-reads : (m : ℕ) → copied r n images .done ≡ suc m
-      → contentOf (r .q) (further (r .b) m) (imageOf (r .target) (copied r n images .images)) ≡ Bytes (copied r n images .last)
-  unfolding lastOf
-  last-reads m e =
-      let last = its-last ∙ ap (λ (i : ℕ). lastOf i (r .q .size) (x .handed ++ replicate (r .q .size) 0)) e in
-      copied-given r n images fit m (omega (arith, e)) ∙ ap Bytes (sym last)
 
 splice-none : (buffer : List ℕ) → splice 0 [] buffer ≡ buffer
 unfolding splice

@@ -4,7 +4,7 @@ use Rattle.pouring.proofs.copy.complete.Statement.{statement}
 use Rattle.pouring.proofs.copy.complete.Tie as tie
 
 returns : tie.Need-returns
-returns c = none-waits _ _ _ _ _ (c .before .before .before .before .before .before .before .pre) (c .if1 .taken)
+returns c = none-waits _ _ _ _ (c .before .before .before .before .before .before .pre) (c .if1 .taken)
 
 sub-set-bytes : tie.Need-sub-set-bytes
 sub-set-bytes c = search needs
@@ -29,39 +29,35 @@ part-store-sectors-end c = search needs
 
 store-sectors-requires : tie.Need-store-sectors-requires
 store-sectors-requires c κs =
-    let a = c .before .before .before .before .before .before .before .before .before .before .before .before .before .before .before .before .before .before in
-    let some = c .before .before .before .before .before .before .before .before .before .before .before .if1 .left in (
+    let a = c .before .before .before .before .before .before .before .before .before .before .before .before .before .before .before .before in
+    let some = c .before .before .before .before .before .before .before .before .before .before .if1 .left in (
       a .pre .under .target-there,
       a .pre .under .fitting .target-fits,
-      last-on _ _ _ _ _ (a .pre) some,
-      last-given _ _ _ _ _ (a .pre) some _ (c .before .before .before .before .before .before .before .before .before .set-bytes .ensures),
-      a .pre .under .buffer-long,
+      last-on _ _ _ _ (a .pre) some,
+      last-given _ _ _ _ (a .pre) some _ (c .before .before .before .before .before .before .before .before .set-bytes .ensures),
     )
 
 ended-by-requires : tie.Need-ended-by-requires
-ended-by-requires c κs = done-few _ _ _ _ _ (c .before .before .before .before .before .before .before .before .before .before .before .before .before .before .before .before .before .before .before .before .before .before .before .before .before .before .before .before .before .pre) (c .before .before .before .before .before .before .before .before .before .before .before .before .before .before .before .before .before .before .before .before .before .before .if1 .left) _ (c .before .before .before .before .before .before .before .before .before .before .before .before .before .before .before .before .before .before .before .before .set-bytes .ensures) _ _ _ (c .before .before .before .before .before .before .before .before .before .before .store-sectors .ensures)
+ended-by-requires c κs = done-few _ _ _ _ (c .before .before .before .before .before .before .before .before .before .before .before .before .before .before .before .before .before .before .before .before .before .before .before .before .before .pre) (c .before .before .before .before .before .before .before .before .before .before .before .before .before .before .before .before .before .before .before .if1 .left) _ (c .before .before .before .before .before .before .before .before .before .before .before .before .before .before .before .before .before .set-bytes .ensures) _ _ (c .before .before .before .before .before .before .before .before .store-sectors .ensures)
 
 same-length : tie.Need-same-length
 same-length c = search needs
 
 same-length-2 : tie.Need-same-length-2
-same-length-2 c = c .before .before .before .before .before .before .before .before .before .before .buffer .given
+same-length-2 c = c .before .before .before .before .before .before .before .before .image0 .given
 
 same-length-3 : tie.Need-same-length-3
-same-length-3 c = c .before .before .before .before .before .before .before .before .image0 .given
+same-length-3 c = c .before .before .before .before .before .before .image1 .given
 
 same-length-4 : tie.Need-same-length-4
-same-length-4 c = c .before .before .before .before .before .before .image1 .given
+same-length-4 c = c .before .before .before .before .image2 .given
 
 same-length-5 : tie.Need-same-length-5
-same-length-5 c = c .before .before .before .before .image2 .given
-
-same-length-6 : tie.Need-same-length-6
-same-length-6 c = c .before .before .image3 .given
+same-length-5 c = c .before .before .image3 .given
 
 returns-2 : tie.Need-returns-2
 returns-2 c =
-    completed-to _ _ _ _ _ (c .before .before .before .before .before .before .before .before .before .before .before .before .before .before .before .before .before .before .before .before .before .before .before .before .before .before .before .before .before .before .pre) (c .before .before .before .before .before .before .before .before .before .before .before .before .before .before .before .before .before .before .before .before .before .before .before .if1 .left) _ (c .before .before .before .before .before .before .before .before .before .before .before .before .before .before .before .before .before .before .before .before .before .set-bytes .ensures) _ _ _ (c .before .before .before .before .before .before .before .before .before .before .before .store-sectors .ensures) _ (c .ended-by .ensures)
+    completed-to _ _ _ _ (c .before .before .before .before .before .before .before .before .before .before .before .before .before .before .before .before .before .before .before .before .before .before .before .before .before .before .pre) (c .before .before .before .before .before .before .before .before .before .before .before .before .before .before .before .before .before .before .before .before .if1 .left) _ (c .before .before .before .before .before .before .before .before .before .before .before .before .before .before .before .before .before .before .set-bytes .ensures) _ _ (c .before .before .before .before .before .before .before .before .before .store-sectors .ensures) _ (c .ended-by .ensures)
 
 pub complete-spec : {M : Type 1} → statement M
 complete-spec =
@@ -82,5 +78,4 @@ complete-spec =
     same-length-3
     same-length-4
     same-length-5
-    same-length-6
     returns-2)
