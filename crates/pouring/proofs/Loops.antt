@@ -19,7 +19,7 @@ use Rattle.pouring.proofs.Ends.{going-or-not}
 pub record Turning (r : Route) (n : ℕ) (images₀ : List (List ℕ)) (s : Progress) (scratch : List ℕ) (images : List (List ℕ)) : Type 0 where
   pub under : Underway r n s scratch images
   pub y : Copying
-  pub stood : Stood r y s scratch images
+  pub stood : Stood y s scratch images
   pub whole : completed r (unlessEnded y (λ z. copying r (n - s .read) z)) ≡ copied r n images₀
 
 -- a bound on the turns that are left
@@ -76,7 +76,7 @@ module _ (r : Route) (n : ℕ) (images₀ : List (List ℕ)) where
       abbrev y : Copying
       y = copying r (turn .count) x
 
-      stood : Stood r y t scratched left
+      stood : Stood y t scratched left
       stood = turn .on (w .stood .last)
 
       ends : y .end ≡ t .end

@@ -103,7 +103,7 @@ afterTurn r s source target held =
     })
 
 -- the Copy y stands here, whatever it wrote last
-pub record Stood (r : Route) (y : Copying) (t : Progress) (scratch : List ℕ) (images : List (List ℕ)) : Type 0 where
+pub record Stood (y : Copying) (t : Progress) (scratch : List ℕ) (images : List (List ℕ)) : Type 0 where
   pub last : List ℕ
   pub is : y ≡ standing t scratch images last
 
@@ -115,7 +115,7 @@ pub record TurnedTo (r : Route) (n : ℕ) (s : Progress) (scratch : List ℕ) (i
   pub most : s .read + count ≤ n
   pub counted : t .end ≡ Going → t .read ≡ s .read + count
   pub under : Underway r n t scratched left
-  pub on : (last : List ℕ) → Stood r (copying r count (standing s scratch images last)) t scratched left
+  pub on : (last : List ℕ) → Stood (copying r count (standing s scratch images last)) t scratched left
 
 -- ---- the end
 -- by the Write of the last sector

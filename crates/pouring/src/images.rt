@@ -121,7 +121,8 @@ pub fn keep_done(
     requires { ⌜ (r .target < 4) × Fits (r .q) (imageOf (r .target) (imagesOf (now image0) (now image1) (now image2) (now image3)))
         × (r .b .0 + done ≤ addressCount (r .q)) × (length (now buffer) ≡ 512) ⌝ }
     ensures { λ _. ⌜ now (buffer .exit)
-        ≡ splice 0 (lastRead r done (imagesOf (now (image0 .entry)) (now (image1 .entry)) (now (image2 .entry)) (now (image3 .entry)))) (now (buffer .entry)) ⌝ }
+        ≡ splice 0 (lastRead r done (imagesOf (now (image0 .entry)) (now (image1 .entry)) (now (image2 .entry)) (now (image3 .entry))))
+        (now (buffer .entry)) ⌝ }
 {
     if done == 0 {
         return;
