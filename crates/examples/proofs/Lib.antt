@@ -2,3 +2,5 @@ pub mod Examples
 pub mod Records
 pub mod CopySessions
 pub mod CopyRecords
+pub mod Hearing
+pub mod Separations

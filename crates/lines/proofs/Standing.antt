@@ -19,7 +19,7 @@ use Rattle.model.specs.declared.record.Controller.{Controller}
 use Rattle.model.specs.Block.{blockOf, blockLength}
 use Rattle.model.specs.Engine.{imageOf}
 use Rattle.model.specs.Machine.{Machine}
-use Rattle.model.specs.Claim.{System, Reset, Command, called, replied}
+use Rattle.model.specs.Claim.{System, Reset, Command, leftBy, called, replied}
 use Rattle.model.proofs.engine.Assembled.{drive-below}
 use Rattle.model.proofs.claim.Agrees.{Agrees}
 use Rattle.model.proofs.claim.Restarted.{agree-fresh}
@@ -46,11 +46,11 @@ module _ (c : Controller) (area : List ℕ) (images : List (List ℕ)) (w : Whol
   system = record { controller = c; images = images }
 
   reset-whole : WholeSaid (resetSaid area images)
-  unfolding WholeSaid resetSaid called replied
+  unfolding WholeSaid resetSaid called leftBy replied
   reset-whole = record { long = w .long; machine = _; agrees = call-answered system Reset (w .machine) (w .agrees) .agree }
 
   frame-whole : (frame : List ℕ) → WholeSaid (frameSaid c frame area images)
-  unfolding WholeSaid frameSaid resultSaid called replied
+  unfolding WholeSaid frameSaid resultSaid called leftBy replied
   frame-whole frame =
       let block = take (blockLength frame) frame in
       let given = drop (blockLength frame) frame in

@@ -2,4 +2,5 @@ pub mod engine
 pub mod records
 pub mod claim
 pub mod readers
+pub mod separation
 pub mod anchors

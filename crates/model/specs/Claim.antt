@@ -65,10 +65,13 @@ replied r = (
   record { controller = r .outcome .controller; images = r .images },
 )
 
--- One call: what `reset` and `execute` promise to leave.
+-- One call: what `reset` and `execute` promise to leave. Reset is lent no data area.
+unfoldable pub leftBy : System → Call → Result
+leftBy s Reset = record { outcome = resetOf (s .images); area = []; images = s .images }
+leftBy s (Command block given area) = execute (s .controller) block given area (s .images)
+
 unfoldable pub called : System → Call → Reply × System
-called s Reset = replied (record { outcome = resetOf (s .images); area = []; images = s .images })
-called s (Command block given area) = replied (execute (s .controller) block given area (s .images))
+called s call = replied (leftBy s call)
 
 -- A list of calls, each of which gets the controller and the images that the call before left: its replies, and what is left
 -- at the end.

@@ -13,6 +13,7 @@ use Rattle.model.specs.declared.block.Block.{Block}
 use Rattle.model.specs.declared.block.CopyBlock.{CopyBlock}
 use Rattle.model.specs.declared.record.Drive.{Drive}
 use Rattle.model.specs.declared.record.Controller.{Controller}
+use Rattle.model.specs.declared.record.Ending.{Ending}
 use Rattle.model.specs.declared.record.Outcome.{Outcome}
 use Rattle.model.specs.Block.{blockOf, isCopy, isWhole, copyOf}
 use Rattle.model.specs.Table.{rowFor}
@@ -52,13 +53,17 @@ pub record Result : Type 0 where
   pub area : List ℕ
   pub images : List (List ℕ)
 
--- The record and the images are put together: the entry and the image of every other drive stay.
+-- The record is put together with the answer: the entry of every other drive stays.
+abbrev pub outcomeOf : (drive : ℕ) → Ending → (buffer : List ℕ) → Controller → Outcome
+outcomeOf drive ending buffer c = record {
+  controller = record { buffer = buffer; drives = set (c .drives) drive (ending .entry) };
+  answer = ending .answer;
+}
+
+-- And the images: that of every other drive stays.
 unfoldable pub left : (drive : ℕ) → Effect → Controller → (area : List ℕ) → (images : List (List ℕ)) → Result
 left drive e c area images = record {
-  outcome = record {
-    controller = record { buffer = e .buffer; drives = set (c .drives) drive (e .ending .entry) };
-    answer = e .ending .answer;
-  };
+  outcome = outcomeOf drive (e .ending) (e .buffer) c;
   area = areaAfter e area;
   images = set images drive (e .image);
 }
@@ -71,10 +76,7 @@ onDrive b given c area images =
 -- Copy: the source drive's entry and the destination drive's image change, the data area does not.
 unfoldable pub leftByCopy : (drive : ℕ) → CopyEffect → Controller → (area : List ℕ) → Result
 leftByCopy drive e c area = record {
-  outcome = record {
-    controller = record { buffer = e .buffer; drives = set (c .drives) drive (e .ending .entry) };
-    answer = e .ending .answer;
-  };
+  outcome = outcomeOf drive (e .ending) (e .buffer) c;
   area = area;
   images = e .images;
 }

@@ -11,3 +11,4 @@ pub mod Records
 pub mod Feed
 pub mod Machine
 pub mod Claim
+pub mod Separation

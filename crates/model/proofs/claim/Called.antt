@@ -13,7 +13,7 @@ use Rattle.model.specs.Feed.{Reply, command, bare}
 use Rattle.model.specs.Record.{driveAt, Effect}
 use Rattle.model.specs.Engine.{Result, imageOf, left, onDrive, execute, resetOf}
 use Rattle.model.specs.Machine.{Machine, step}
-use Rattle.model.specs.Claim.{System, Call, Reset, Command, fed, replyOf, replied, called}
+use Rattle.model.specs.Claim.{System, Call, Reset, Command, fed, replyOf, replied, leftBy, called}
 use Rattle.model.proofs.engine.Leaving.{unmoved}
 use Rattle.model.proofs.engine.Assembled.{drive-below, drives-length, own-entry, other-entry, own-image, other-image}
 use Rattle.model.proofs.claim.Agrees.{InStep, Agrees, Follows, Answered}
@@ -84,6 +84,6 @@ module _ (c : Controller) (area : List ℕ) (images : List (List ℕ)) (m : Mach
 
 pub call-answered : (s : System) (call : Call) (m : Machine) → Agrees (s .controller) (λ d. imageOf d (s .images)) m
     → Answered (called s call) (step m (fed call))
-unfolding called replied fed resetOf replyOf step
+unfolding called leftBy replied fed resetOf replyOf step
 call-answered s Reset m agree = record { same = refl; agree = agree-reset (s .images) m (s .controller) agree }
 call-answered s (Command block given area) m agree = execute-executes (s .controller) area (s .images) m agree block given

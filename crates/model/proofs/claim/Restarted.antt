@@ -1,10 +1,9 @@
 -- After Reset, and fresh: what a label gives is what the machine has stored.
-use Prim.Native.Nat.{ℕ, zero, suc, _<_}
+use Prim.Native.Nat.{ℕ, _<_}
 use mathlib.Core.Path.{_≡_, refl, sym, ap, _∙_}
 use mathlib.Core.Bool.{true, false}
 use mathlib.Core.Option.{Option, none, some}
 use mathlib.Core.List.{List}
-use native.Mathlib.Omega.{arith}
 use lib.ListN.{length, replicate, length-replicate}
 use Rattle.base.specs.Pick.{pick}
 use Rattle.geometry.specs.declared.params.Params.{Params}
@@ -17,6 +16,7 @@ use Rattle.model.specs.Record.{blankDrive, driveAt}
 use Rattle.model.specs.Engine.{imageOf, loadedBy, loaded, fresh}
 use Rattle.model.specs.Machine.{Disk, Machine, freshDisk, freshMachine, inForce, restored, step}
 use Rattle.model.specs.Claim.{beginMachine}
+use Rattle.model.proofs.engine.Assembled.{fresh-drive}
 use Rattle.model.proofs.claim.Agrees.{Stored, nothing, something, Drives, InStep, Agrees}
 use Rattle.model.proofs.claim.Current.{stored-forced}
 use Rattle.model.specs.Block.{isWhole, blockLength, isCopy}
@@ -30,14 +30,6 @@ pub loaded-known : (drive : ℕ) (image : List ℕ) (p : Params) → labelSettin
     → loaded drive image ≡ record { sense = replicate 4 0; config = labelConfig image; known = true; pending = false }
 unfolding loaded loadedBy
 loaded-known drive image p e = rw e
-
-pub fresh-drive : (images : List (List ℕ)) (d : ℕ) → d < 4 → driveAt (fresh images) d ≡ loaded d (imageOf d images)
-unfolding driveAt fresh
-fresh-drive images zero h = refl
-fresh-drive images (suc zero) h = refl
-fresh-drive images (suc (suc zero)) h = refl
-fresh-drive images (suc (suc (suc zero))) h = refl
-fresh-drive images (suc (suc (suc (suc d)))) h = absurd (omega arith)
 
 -- what is stored comes into force, and senses are zero
 module _ (drive : ℕ) (u : Disk) (image : List ℕ) (len : u .len ≡ length image) where

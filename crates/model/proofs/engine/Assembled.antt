@@ -1,6 +1,6 @@
 -- What a call puts together: the entry and the image of its drive are what the command left, those of every other drive as before.
-use Prim.Native.Nat.{ℕ, _≤_, _<_}
-use mathlib.Core.Path.{_≡_, sym, ap, _∙_}
+use Prim.Native.Nat.{ℕ, zero, suc, _≤_, _<_}
+use mathlib.Core.Path.{_≡_, refl, sym, ap, _∙_}
 use mathlib.Core.List.{List, []}
 use native.Mathlib.Decide.{decLt}
 use native.Mathlib.Nat.{mod-lt}
@@ -11,7 +11,7 @@ use Rattle.base.proofs.Parts.{length-none}
 use Rattle.model.specs.declared.record.Controller.{Controller}
 use Rattle.model.specs.Block.{blockOf}
 use Rattle.model.specs.Record.{driveAt, blankDrive, Effect}
-use Rattle.model.specs.Engine.{Result, imageOf, left}
+use Rattle.model.specs.Engine.{Result, imageOf, left, loaded, fresh}
 
 pub drive-below : (block : List ℕ) → blockOf block .drive < 4
 unfolding blockOf
@@ -49,3 +49,12 @@ module _ (drive : ℕ) (e : Effect) (c : Controller) (area : List ℕ) (images :
           let none : getD images drive [] ≡ [] = List·getD-eq-default images [] past in
           let still : length (all .images) ≤ drive = rw (length-set images drive (e .image)) past in
           List·getD-eq-default (all .images) [] still ∙ sym (length-none (e .image) (len ∙ ap length none))
+
+-- Reset: each drive is loaded from its own image.
+pub fresh-drive : (images : List (List ℕ)) (d : ℕ) → d < 4 → driveAt (fresh images) d ≡ loaded d (imageOf d images)
+unfolding driveAt fresh
+fresh-drive images zero h = refl
+fresh-drive images (suc zero) h = refl
+fresh-drive images (suc (suc zero)) h = refl
+fresh-drive images (suc (suc (suc zero))) h = refl
+fresh-drive images (suc (suc (suc (suc d)))) h = absurd (omega arith)

@@ -11,12 +11,11 @@ use Rattle.model.specs.declared.record.Controller.{Controller}
 use Rattle.model.specs.Block.{blockOf, isCopy, copyOf}
 use Rattle.model.specs.Record.{blankDrive, driveAt, Effect}
 use Rattle.model.specs.Engine.{obey, Result, imageOf, left, onDrive, onDrives, execute, fresh, resetOf}
-use Rattle.model.specs.Claim.{System, Call, Reset, Command, replied, called, engineAtEnd, begin}
-use Rattle.model.proofs.engine.Assembled.{drive-below, drives-length, own-entry, other-entry, own-image, other-image}
+use Rattle.model.specs.Claim.{System, Call, Reset, Command, replied, leftBy, called, engineAtEnd, begin}
+use Rattle.model.proofs.engine.Assembled.{drive-below, drives-length, own-entry, other-entry, own-image, other-image, fresh-drive}
 use Rattle.model.proofs.engine.Beyond.{outside-kept}
 use Rattle.model.proofs.engine.Blocks.{by-block}
 use Rattle.model.proofs.engine.CopyLeaves.{copy-leaves}
-use Rattle.model.proofs.claim.Restarted.{fresh-drive}
 use Rattle.model.proofs.readers.PendingDrives.{PendingByLabel, blank-pending, loaded-pending, pending-kept, obey-pending}
 
 -- all drives, of which there are four; one past them has no parameters
@@ -84,7 +83,7 @@ module _ (c : Controller) (area : List ℕ) (images : List (List ℕ)) (told : A
       (λ none. told)
 
 call-by-label : (s : System) (call : Call) → AllIn s → AllIn (called s call .1)
-unfolding called replied resetOf
+unfolding called leftBy replied resetOf
 call-by-label s Reset told = fresh-by-label (s .images)
 call-by-label s (Command block given area) told = execute-by-label (s .controller) area (s .images) told block given
 

@@ -70,7 +70,7 @@ zero-label medium n =
     pick-both none-of _ _ _ (pick-both none-of _ _ _ (rw none (no-cylinders medium _ _ _ _ _)) refl) refl
 
 module _ (n₀ n₁ n₂ n₃ : ℕ) where
-  abbrev allZeros : List (List ℕ)
+  abbrev pub allZeros : List (List ℕ)
   allZeros = imagesOf (zeros n₀) (zeros n₁) (zeros n₂) (zeros n₃)
 
   zero-labels : (drive : ℕ) → drive < 4 → labelSetting (mediumOf drive) (imageOf drive allZeros) ≡ Invalid
@@ -102,7 +102,7 @@ module _ (n₀ n₁ n₂ n₃ : ℕ) where
   unfolding beginMachine
   machine-same = ap freshMachine (λ i drive. zero-length drive i)
 
-  pub EngineAnswers : List Line → Type 0
+  unfoldable pub EngineAnswers : List Line → Type 0
   EngineAnswers lines = (calls : List Call) → map fed calls ≡ map (λ (l : Line). l .call) lines
       → allTold (engineReplies (begin allZeros) calls) lines ≡ true
 
@@ -113,11 +113,11 @@ module _ (n₀ n₁ n₂ n₃ : ℕ) where
       ∙ ap (replies (beginMachine allZeros)) is ∙ ap (λ (m : Machine). replies m (map (λ (l : Line). l .call) lines)) machine-same) ∙ answers
 
 -- every list that the machine is fed comes from calls
-callOf : Feed → Call
+unfoldable pub callOf : Feed → Call
 callOf reset = Reset
 callOf (command block given area) = Commanded block given (zeros area)
 
-fed-back : (all : List Feed) → map fed (map callOf all) ≡ all
+pub fed-back : (all : List Feed) → map fed (map callOf all) ≡ all
 unfolding fed callOf
 fed-back [] = refl
 fed-back (reset ∷ all) = ap {B = List Feed} (λ cs. reset ∷ cs) (fed-back all)
