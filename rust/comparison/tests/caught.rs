@@ -2,6 +2,8 @@
 //! first of those that hold a sector, engines that take floppies for something else, and engines
 //! that copy in another way.
 
+mod wrong;
+
 use std::time::{Duration, Instant};
 
 use comparison::compare::{self, Bounds};
@@ -11,6 +13,7 @@ use comparison::paper::{self, Condition, Config, CopyBlocks, Fault, Geometry, Ki
 use comparison::plain::{Answer, Controller, Drive};
 use comparison::random::{self, Random, Scale};
 use comparison::tally::{Event, Tally};
+use wrong::{as_it_should, Command, Lent, Reset, Wrong};
 
 fn bounds(starts: u64) -> Bounds {
     Bounds { seed: 77 << 32, starts, deadline: Instant::now() + Duration::from_secs(60) }
@@ -165,36 +168,7 @@ fn lists_do_not_show_the_slot() {
     }
 }
 
-/// What a command is lent.
-struct Lent<'a> {
-    block: &'a [u8],
-    given: &'a [u8],
-    area: &'a mut [u8],
-    images: [&'a mut [u8]; 4],
-}
-
 impl Lent<'_> {
-    /// The command done rightly.
-    fn right(&mut self, engine: &mut Controller) -> Answer {
-        self.instead(engine, self.block, self.given)
-    }
-
-    /// Another block and other data in place of those lent.
-    fn instead(&mut self, engine: &mut Controller, block: &[u8], given: &[u8]) -> Answer {
-        engine.execute(block, given, self.area, self.images.each_mut().map(|image| &mut **image))
-    }
-
-    /// The block with one byte changed.
-    fn with_byte(&mut self, engine: &mut Controller, at: usize, byte: u8) -> Answer {
-        let mut block = self.block.to_vec();
-        block[at] = byte;
-        self.instead(engine, &block, self.given)
-    }
-
-    fn drive(&self) -> usize {
-        usize::from(self.block[1] >> 5 & 3)
-    }
-
     fn kind(&self) -> Kind {
         Kind::of(self.drive())
     }
@@ -219,46 +193,6 @@ impl Lent<'_> {
             }
         }
     }
-}
-
-type Command = fn(&mut Controller, Lent) -> Answer;
-type Reset = fn(&mut Controller, [&[u8]; 4]) -> Answer;
-
-/// The plain engine made wrong: commands of six bytes, or of ten, or Reset, are done in another way.
-struct Wrong {
-    engine: Controller,
-    six: Command,
-    ten: Command,
-    reset: Reset,
-}
-
-impl Engine for Wrong {
-    fn reset(&mut self, images: [&[u8]; 4]) -> Answer {
-        (self.reset)(&mut self.engine, images)
-    }
-
-    fn execute(
-        &mut self,
-        block: &[u8],
-        given: &[u8],
-        area: &mut [u8],
-        images: [&mut [u8]; 4],
-    ) -> Answer {
-        let mut lent = Lent { block, given, area, images };
-        match block.len() {
-            6 => (self.six)(&mut self.engine, lent),
-            10 => (self.ten)(&mut self.engine, lent),
-            _ => lent.right(&mut self.engine),
-        }
-    }
-
-    fn record(&self) -> Controller {
-        self.engine.clone()
-    }
-}
-
-fn as_it_should(engine: &mut Controller, mut lent: Lent) -> Answer {
-    lent.right(engine)
 }
 
 /// A format of a floppy with these commands fills 6Ch.
