@@ -102,7 +102,7 @@ fn each_start(
 }
 
 /// Says which call of a start went wrong.
-fn at_call(index: u32, step: &Step, what: String) -> String {
+pub(crate) fn at_call(index: u32, step: &Step, what: String) -> String {
     let call = match &step.call {
         Call::Reset => "Reset".to_string(),
         Call::Execute { block, given } => {

@@ -6,6 +6,7 @@
 //! - [`machine`], [`outcome`]: what a call comes to, on the terms of [`paper`], which `plain` does
 //!   not use, so that a slip in one is not repeated in the other.
 //! - [`random`], [`compare`], [`examples`]: what is tried, for any [`engine::Engine`].
+//! - [`separation`]: that one drive's work does not show in another's (request E6).
 //! - [`copies`], [`duplicates`], [`tally`]: what was reached.
 
 pub mod compare;
@@ -19,4 +20,5 @@ pub mod paper;
 pub mod plain;
 pub mod proved;
 pub mod random;
+pub mod separation;
 pub mod tally;

@@ -204,6 +204,7 @@ struct Belief {
 }
 
 /// Makes calls, one after the other.
+#[derive(Clone)]
 pub struct Caller {
     pub random: Random,
     scales: [Scale; 4],
@@ -242,11 +243,29 @@ impl Caller {
         Caller { random, scales: scale.of_drives(), lengths, weights, beliefs }
     }
 
+    /// Lets a drive be named as often as this weight says; the others' are 8 to 120 each.
+    pub fn weigh(&mut self, drive: usize, weight: u32) {
+        self.weights[drive] = weight;
+    }
+
+    /// Believes what a Reset on these images finds in the labels.
+    pub fn begin(&mut self, images: &[Vec<u8>; 4]) {
+        for (drive, image) in images.iter().enumerate() {
+            self.beliefs[drive].stored = paper::label(Kind::of(drive), image);
+        }
+        self.reset();
+    }
+
     /// The next call.
     pub fn step(&mut self) -> Step {
         if self.random.chance(2) {
             return self.reset();
         }
+        self.command()
+    }
+
+    /// The next call, which is no Reset.
+    pub fn command(&mut self) -> Step {
         let drive = self.drive();
         let before = self.beliefs.clone();
         let draft = self.sensible(drive);
@@ -263,7 +282,7 @@ impl Caller {
         self.random.weighted(&[(first, 0), (second, 1), (third, 2), (fourth, 3)])
     }
 
-    fn reset(&mut self) -> Step {
+    pub fn reset(&mut self) -> Step {
         for belief in &mut self.beliefs {
             belief.in_force = belief.stored;
             belief.pending = false;

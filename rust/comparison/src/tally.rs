@@ -33,7 +33,7 @@ pub enum Event {
     Pending,
     /// An Initialize that was refused with bytes that the other kind of drive would have taken.
     OtherKind,
-    /// A format that ended well with control bit 5.
+    /// A format or assignment that ended well with control bit 5.
     BitFive(u8),
     /// 22h of a command whose control bits and interleave are in order.
     Refused {
@@ -70,7 +70,7 @@ impl Event {
             &[2, 3].map(Event::Number),
             &OPCODES.map(Event::Good),
             &[Event::Settled, Event::Pending, Event::OtherKind],
-            &[0x04, 0x06].map(Event::BitFive),
+            &[0x04, 0x06, 0x0E].map(Event::BitFive),
             &[0x05, 0x0E].map(refused).concat(),
             &copies::SIZES.map(Event::Copied),
             &copies::SIZES.map(Event::Completed),
@@ -86,11 +86,12 @@ impl Event {
 
     /// Whether a call on such a drive can come to it: then the comparison has to reach it, else no
     /// engine may show it.
-    fn is_possible(self, starts: Starts, kind: Kind) -> bool {
+    pub fn is_possible(self, starts: Starts, kind: Kind) -> bool {
         let (floppy, fresh) = (kind == Kind::Floppy, starts == Starts::Fresh);
         match self {
             // Check Track and Assign Alternate, and codes that only they give.
-            Event::Good(0x05 | 0x0E) | Event::Code(0x1A | 0x1F) => !floppy,
+            Event::Good(0x05 | 0x0E) | Event::BitFive(0x0E) => !floppy,
+            Event::Code(0x1A | 0x1F) => !floppy,
             // What no format leaves.
             Event::Code(0x10 | 0x12 | 0x14 | 0x15 | 0x1E) => !fresh,
             // Pairs, which a floppy has from damage alone.
@@ -265,7 +266,7 @@ fn good_end(block: &[u8], drive: &Drive) -> Option<Event> {
     match block[0] {
         0x11 if drive.pending => Some(Event::Pending),
         0x11 => Some(Event::Settled),
-        opcode @ (0x04 | 0x06) if block[5] & 0x20 != 0 => Some(Event::BitFive(opcode)),
+        opcode @ (0x04 | 0x06 | 0x0E) if block[5] & 0x20 != 0 => Some(Event::BitFive(opcode)),
         _ => None,
     }
 }
