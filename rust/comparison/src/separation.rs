@@ -17,6 +17,7 @@ use pairs::{List, Pair};
 
 pub use reached::Reached;
 
+const WRITE_BUFFER: u8 = 0x0F;
 const READ_BUFFER: u8 = 0x10;
 const COPY: u8 = 0x20;
 
@@ -67,13 +68,20 @@ pub fn excluded(drive: usize, block: &[u8]) -> Option<Excluded> {
     }
 }
 
+/// Whether a whole block is a Write Buffer that is taken: bit 7 of byte 1 is not set, and the data are
+/// not too short. Then all of the buffer is the drive's own.
+fn fills_buffer(block: &[u8], given: &[u8]) -> bool {
+    block[0] == WRITE_BUFFER && block[1] & 0x80 == 0 && given.len() >= 512
+}
+
 /// Which excluded commands the lists of a pair hold.
 #[derive(Clone, Copy, Debug, PartialEq, Eq)]
 pub enum Rule {
     /// None: the request's own lists.
     Apart,
     /// Read Buffer and bit 5, where no whole block that names other drives only came since the last
-    /// Reset: the departments take turns, and a Reset stands before each turn.
+    /// Reset or Write Buffer of the drive: the departments take turns, and one of the two stands
+    /// before each turn.
     Turns,
     /// One kind, anywhere: then the lists may show each other.
     LetIn(Excluded),

@@ -180,6 +180,16 @@ fn stray_block_kept(engine: &mut Controller, mut lent: Lent) -> Answer {
     answer
 }
 
+/// A Write Buffer leaves the buffer's second half.
+fn half_filled(engine: &mut Controller, mut lent: Lent) -> Answer {
+    let before = engine.buffer;
+    let answer = lent.right(engine);
+    if lent.block[0] == 0x0F {
+        engine.buffer[256..].copy_from_slice(&before[256..]);
+    }
+    answer
+}
+
 fn label_of_another(engine: &mut Controller, images: [&[u8]; 4]) -> Answer {
     engine.reset([images[1], images[0], images[3], images[2]])
 }
@@ -220,7 +230,8 @@ fn drives_that_show_are_caught() {
 /// What only the buffer shows is no difference for the request's own lists, but one for turns.
 #[test]
 fn turns_that_show_are_caught() {
-    let engines: [(&str, Command, Reset); 2] = [
+    let engines: [(&str, Command, Reset); 3] = [
+        ("a Write Buffer leaves half of the buffer", half_filled, Controller::reset),
         ("Reset keeps the buffer", as_it_should, buffer_kept),
         ("a refused block is left in the buffer", stray_block_kept, Controller::reset),
     ];

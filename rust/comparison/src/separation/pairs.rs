@@ -1,7 +1,7 @@
 //! Pairs of random lists that agree for one drive: in its first image, in the Resets, and in the
 //! commands that name it. Everything else is made for each list by itself.
 
-use super::{excluded, is_whole, names, Excluded, Rule, BIT_5};
+use super::{excluded, fills_buffer, is_whole, names, Excluded, Rule, BIT_5};
 use crate::engine::{Call, Step};
 use crate::plain::Controller;
 use crate::random::{self, Caller, Damaged, Random, Scale};
@@ -115,13 +115,21 @@ fn turn_round(block: &mut [u8]) {
     front[1..4].swap_with_slice(&mut back[..3]);
 }
 
-/// Whether one of the drive's calls before the next Reset is of an excluded kind.
+/// Whether one of the drive's calls leaves nothing of others in the buffer: Reset or Write Buffer.
+fn cleans(call: &Call) -> bool {
+    match call {
+        Call::Reset => true,
+        Call::Execute { block, given } => fills_buffer(block, given),
+    }
+}
+
+/// Whether one of the drive's calls before the buffer is clean again is of an excluded kind.
 fn borrows_soon(drive: usize, own: &[Step]) -> bool {
-    let mut commands = own.iter().map_while(|step| match &step.call {
-        Call::Reset => None,
-        Call::Execute { block, .. } => Some(block),
-    });
-    commands.any(|block| excluded(drive, block).is_some())
+    let mut soon = own.iter().map(|step| &step.call).take_while(|call| !cleans(call));
+    soon.any(|call| match call {
+        Call::Reset => false,
+        Call::Execute { block, .. } => excluded(drive, block).is_some(),
+    })
 }
 
 /// Calls that do not name the drive, for the places between its own calls.
@@ -131,13 +139,13 @@ fn weave(caller: Caller, drive: usize, own: &[Step], rule: Rule) -> Vec<Vec<Step
     let most = weaver.caller.random.pick(&[0, 1, 2, 3, 4]);
     let mut others = Vec::new();
     for k in 0..=own.len() {
-        let resets = own.get(k).is_some_and(|step| step.call == Call::Reset);
+        let next = own.get(k).map(|step| &step.call);
         let free = rule != Rule::Turns || !borrows_soon(drive, &own[k..]);
-        // Before a Reset is the place for a turn of others.
-        let turn = if rule == Rule::Turns && resets { 2 * most } else { 0 };
+        // Before what makes the buffer clean is the place for a turn of others.
+        let turn = if rule == Rule::Turns && next.is_some_and(cleans) { 2 * most } else { 0 };
         let calls = turn + weaver.caller.random.below(most + 1);
         others.push((0..calls).map(|_| weaver.other(free)).collect());
-        if resets {
+        if next == Some(&Call::Reset) {
             weaver.caller.reset();
         }
     }

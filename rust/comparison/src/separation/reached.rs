@@ -3,7 +3,7 @@
 use std::fmt;
 use std::mem::replace;
 
-use super::{Excluded, Pair, Rule};
+use super::{fills_buffer, Excluded, Pair, Rule};
 use crate::engine::{Call, Step};
 use crate::paper::{Kind, COPY};
 use crate::plain::Answer;
@@ -32,6 +32,8 @@ pub struct Reached {
     formats_apart: u64,
     /// Good uses of the buffer after a Reset that ended a difference of the buffers.
     turns: u64,
+    /// The same after a Write Buffer of the drive that did so.
+    refills: u64,
     now: Now,
 }
 
@@ -42,8 +44,9 @@ struct Now {
     differ: bool,
     /// Whether they did so for a command of the drive.
     were_apart: bool,
-    /// Whether the last Reset ended a difference.
+    /// Whether the last Reset ended a difference, and whether a Write Buffer has done so since.
     ended: bool,
+    refilled: bool,
 }
 
 /// Whose calls an event is of.
@@ -85,6 +88,7 @@ impl Reached {
             apart: 0,
             formats_apart: 0,
             turns: 0,
+            refills: 0,
             now: Now::default(),
         }
     }
@@ -106,10 +110,13 @@ impl Reached {
     /// One of the own calls begins.
     pub(super) fn call(&mut self, step: &Step, buffers_differ: bool) {
         self.now.differ = buffers_differ;
-        if step.call == Call::Reset {
-            self.now.ended = buffers_differ;
-        } else if buffers_differ {
-            self.apart += u64::from(!replace(&mut self.now.were_apart, true));
+        match &step.call {
+            Call::Reset => (self.now.ended, self.now.refilled) = (buffers_differ, false),
+            Call::Execute { block, given } if buffers_differ => {
+                self.apart += u64::from(!replace(&mut self.now.were_apart, true));
+                self.now.refilled |= fills_buffer(block, given);
+            }
+            Call::Execute { .. } => {}
         }
     }
 
@@ -126,7 +133,8 @@ impl Reached {
         };
         let formats = FORMATS.contains(&block[0]) && !borrows;
         self.formats_apart += u64::from(formats && self.now.differ);
-        self.turns += u64::from(borrows && self.now.ended);
+        self.turns += u64::from(borrows && self.now.ended && !self.now.refilled);
+        self.refills += u64::from(borrows && self.now.refilled);
     }
 
     fn count(&self, whose: Whose, kind: Kind, event: Event) -> u64 {
@@ -156,7 +164,7 @@ impl Reached {
 
     /// Totals by name, and how many there have to be at least for 100 pairs: about half of what there
     /// are, so that lists which reach little are noticed.
-    fn totals(&self) -> [(&'static str, u64, u64); 14] {
+    fn totals(&self) -> [(&'static str, u64, u64); 15] {
         let turns = self.rule == Rule::Turns;
         [
             ("pairs", self.pairs, 100),
@@ -169,7 +177,8 @@ impl Reached {
             ("own good formats", self.good(&FORMATS), if turns { 70 } else { 100 }),
             ("formats with buffers apart", self.formats_apart, if turns { 15 } else { 45 }),
             ("own good Reads and Writes", self.good(&[0x08, 0x0A]), if turns { 60 } else { 85 }),
-            ("buffer used in a new turn", self.turns, if turns { 13 } else { 0 }),
+            ("buffer used behind a Reset", self.turns, if turns { 13 } else { 0 }),
+            ("behind a Write Buffer", self.refills, if turns { 2 } else { 0 }),
             ("excluded, left out", self.left_out, if turns { 70 } else { 180 }),
             ("other calls", self.others.calls, 1_200),
             ("blocks of a wrong length", self.others.no_block, 100),
