@@ -10,9 +10,10 @@ use borrow.Author.Tests.{eqb-true, eq-eqb}
 use Rattle.base.specs.Pick.{pick}
 use Rattle.base.specs.Same.{sameBytes}
 use Rattle.base.proofs.Bools.{both-true}
+use Rattle.base.proofs.Sames.{same-eq}
 use Rattle.model.specs.Feed.{Reply}
 use Rattle.model.specs.Claim.{System, Call, replyOf, replied, leftBy, called, engineReplies, begin}
-use Rattle.model.specs.Separation.{isOf, callsOf, allMayStand, Heard, heardOf, heard, SameFor, Separated}
+use Rattle.model.specs.Separation.{concerns, callsOf, allMayStand, Heard, heardOf, heard, SameFor, SeparationExcluding}
 use Rattle.model.proofs.anchors.Session.{Line, told, allTold, lengthsOf, Answers}
 use Rattle.model.proofs.readers.Sessions.{allZeros, EngineAnswers, engine-answers, callOf, fed-back}
 
@@ -20,7 +21,7 @@ use Rattle.model.proofs.readers.Sessions.{allZeros, EngineAnswers, engine-answe
 unfoldable pub ofDrive {ℓ} : {A : Type ℓ} → (d : ℕ) → List Call → List A → List A
 ofDrive d [] xs = []
 ofDrive d (call ∷ calls) [] = []
-ofDrive d (call ∷ calls) (x ∷ xs) = pick (isOf d call) (x ∷ ofDrive d calls xs) (ofDrive d calls xs)
+ofDrive d (call ∷ calls) (x ∷ xs) = pick (concerns d call) (x ∷ ofDrive d calls xs) (ofDrive d calls xs)
 
 toldOf : Heard → List ℕ
 toldOf h = told (replyOf (h .answer) (h .area))
@@ -34,18 +35,9 @@ pick-map false f h rest later e = e
 heard-told : (d : ℕ) (s : System) (calls : List Call) → map toldOf (heard d s calls) ≡ ofDrive d calls (map told (engineReplies s calls))
 unfolding heard ofDrive engineReplies toldOf heardOf called replied
 heard-told d s [] = refl
-heard-told d s (call ∷ calls) = pick-map (isOf d call) toldOf (heardOf (leftBy s call)) _ _ (heard-told d (called s call .1) calls)
+heard-told d s (call ∷ calls) = pick-map (concerns d call) toldOf (heardOf (leftBy s call)) _ _ (heard-told d (called s call .1) calls)
 
 -- ---- Answers that are as written are the written ones
-same-is : (xs ys : List ℕ) → sameBytes xs ys ≡ true → xs ≡ ys
-unfolding sameBytes
-same-is [] [] e = refl
-same-is [] (y ∷ ys) e = absurd (false≢true e)
-same-is (x ∷ xs) [] e = absurd (false≢true e)
-same-is (x ∷ xs) (y ∷ ys) e =
-    let both = both-true (eqb x y) _ e in
-    ap₂ _∷_ (eqb-true x y (both .0)) (same-is xs ys (both .1))
-
 told-is : (replies : List Reply) (lines : List Line) → allTold replies lines ≡ true → map told replies ≡ map (λ (l : Line). l .answer) lines
 unfolding allTold
 told-is [] [] e = refl
@@ -53,7 +45,7 @@ told-is [] (l ∷ lines) e = absurd (false≢true e)
 told-is (r ∷ rest) [] e = absurd (false≢true e)
 told-is (r ∷ rest) (l ∷ lines) e =
     let both = both-true (sameBytes (told r) (l .answer)) _ e in
-    ap₂ _∷_ (same-is (told r) (l .answer) (both .0)) (told-is rest lines (both .1))
+    ap₂ _∷_ (same-eq (told r) (l .answer) (both .0)) (told-is rest lines (both .1))
 
 -- ---- A session's calls, on images of zeros; each has a data area of zeros
 unfoldable pub callsIn : List Line → List Call
@@ -77,8 +69,8 @@ module _ (n₀ n₁ n₂ n₃ : ℕ) where
       → Answers (lengthsOf n₀ n₁ n₂ n₃) lines₁ → Answers (lengthsOf n₀ n₁ n₂ n₃) lines₂
       → callsOf d (callsIn lines₁) ≡ callsOf d (callsIn lines₂) → allMayStand out (callsOf d (callsIn lines₁)) ≡ true
       → (k i : ℕ) → eqb (getD (getD (written d lines₁) k []) i 0) (getD (getD (written d lines₂) k []) i 0) ≡ false
-      → Separated out → ⊥
-  unfolding Separated SameFor
+      → SeparationExcluding out → ⊥
+  unfolding SeparationExcluding SameFor
   refuted out d lines₁ lines₂ h answers₁ answers₂ own may k i other separated =
       let zeros = allZeros n₀ n₁ n₂ n₃ in
       let same = separated d h zeros zeros refl (callsIn lines₁) (callsIn lines₂) own may .0 in

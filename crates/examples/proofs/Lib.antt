@@ -3,4 +3,5 @@ pub mod Records
 pub mod CopySessions
 pub mod CopyRecords
 pub mod Hearing
-pub mod Separations
+pub mod Exclusions
+pub mod Departments

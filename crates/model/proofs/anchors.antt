@@ -11,3 +11,4 @@ pub mod CopyDamage
 pub mod Session
 pub mod Floppies
 pub mod Leaves
+pub mod Naming

@@ -1,4 +1,5 @@
 -- Laws of the engine's definition, no machine in sight.
+pub mod Rows
 pub mod Judged
 pub mod Checked
 pub mod Known

@@ -5,3 +5,4 @@ pub mod Apart
 pub mod Alike
 pub mod Calls
 pub mod Separated
+pub mod Turns

@@ -12,3 +12,4 @@ pub mod Feed
 pub mod Machine
 pub mod Claim
 pub mod Separation
+pub mod Turns

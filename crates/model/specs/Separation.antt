@@ -1,7 +1,8 @@
 -- Request E6, one drive's work and another's: two departments share a console, one disk each, and neither may see the other's.
--- Two lists of calls, each from a fresh controller, may differ freely in the commands that name other drives only and in what
--- those drives hold. If they have the same Resets and the same commands that name drive d, in the same order, and drive d's first
--- images are equal, then drive d's answers, its sense and parameters, and its image are equal.
+-- Two lists of calls, each from a fresh controller, may differ freely in the commands that do not name drive d and in what the other
+-- drives hold. If they have the same Resets and the same commands that name drive d, in the same order, none of these a Read Buffer, one
+-- with control bit 5 or a Copy, and if drive d's first images are equal, then drive d's answers, its sense and parameters, and its image
+-- are equal.
 use Prim.Native.Nat.{ℕ, _/_, _%_, _<_}
 use mathlib.Core.Path.{_≡_}
 use mathlib.Core.Bool.{Bool, true, not, _&&_, _||_}
@@ -22,14 +23,14 @@ use Rattle.model.specs.Claim.{System, Call, Reset, Command, leftBy, call
 unfoldable pub names : (d : ℕ) → (block : List ℕ) → Bool
 names d block = isWhole block && (eqb (byte block 1 / 32 % 4) d || (isCopy block && eqb (byte block 5 / 32 % 4) d))
 
--- Drive d's calls of a list: every Reset, and the commands that name it, each with its given data and its data area.
-unfoldable pub isOf : (d : ℕ) → Call → Bool
-isOf d Reset = true
-isOf d (Command block given area) = names d block
+-- The calls of a list that concern drive d: every Reset, and the commands that name it, each with its given data and its data area.
+unfoldable pub concerns : (d : ℕ) → Call → Bool
+concerns d Reset = true
+concerns d (Command block given area) = names d block
 
 unfoldable pub callsOf : (d : ℕ) → List Call → List Call
 callsOf d [] = []
-callsOf d (call ∷ calls) = pick (isOf d call) (call ∷ callsOf d calls) (callsOf d calls)
+callsOf d (call ∷ calls) = pick (concerns d call) (call ∷ callsOf d calls) (callsOf d calls)
 
 -- ---- What is excluded: Read Buffer, and control bit 5 in 04, 06 and 0Eh, for they use the buffer; and Copy.
 unfoldable pub usesBuffer : (block : List ℕ) → Bool
@@ -49,7 +50,7 @@ unfoldable pub allMayStand : (out : List ℕ → Bool) → List Call → Bool
 allMayStand out [] = true
 allMayStand out (call ∷ calls) = mayStand out call && allMayStand out calls
 
--- ---- What is compared: of each of drive d's calls number, status, message, both counts, and the whole data area
+-- ---- What is compared: of each call that concerns drive d number, status, message, both counts, and the whole data area
 pub record Heard : Type 0 where
   pub answer : Answer
   pub area : List ℕ
@@ -61,7 +62,7 @@ unfoldable pub heard : (d : ℕ) → System → List Call → List Heard
 heard d s [] = []
 heard d s (call ∷ calls) =
     let later = heard d (called s call .1) calls in
-    pick (isOf d call) (heardOf (leftBy s call) ∷ later) later
+    pick (concerns d call) (heardOf (leftBy s call) ∷ later) later
 
 -- and at the end what drive d has: its entry (four sense bytes, parameters in force, whether pending) and its image.
 pub record Own : Type 0 where
@@ -77,37 +78,11 @@ SameFor d images₁ images₂ calls₁ calls₂ =
     × (ownOf d (engineAtEnd (begin images₁) calls₁) ≡ ownOf d (engineAtEnd (begin images₂) calls₂))
 
 -- ---- The theorem, for every drive. Which blocks are out is a parameter, so that each exclusion can be shown to be needed.
-unfoldable pub Separated : (out : List ℕ → Bool) → Type 0
-Separated out =
+unfoldable pub SeparationExcluding : (out : List ℕ → Bool) → Type 0
+SeparationExcluding out =
     (d : ℕ) → d < 4 → (images₁ images₂ : List (List ℕ)) → imageOf d images₁ ≡ imageOf d images₂
     → (calls₁ calls₂ : List Call) → callsOf d calls₁ ≡ callsOf d calls₂ → allMayStand out (callsOf d calls₁) ≡ true
     → SameFor d images₁ images₂ calls₁ calls₂
 
 unfoldable pub Separation : Type 0
-Separation = Separated excluded
-
--- ---- In turns. Reset zeroes the buffer, and a Write Buffer of drive d that is taken fills it: until a command names other drives
--- only, the buffer is clean, that is, holds nothing of theirs, and Read Buffer and bit 5 do no harm either. So it is with a Reset
--- before each change of department. A Copy that names the drive stays excluded.
-unfoldable pub inItsTurn : (d : ℕ) → (clean : Bool) → Call → Bool
-inItsTurn d clean Reset = true
-inItsTurn d clean (Command block given area) = not (names d block) || (not (isCopy block) && (clean || not (usesBuffer block)))
-
--- Opcode 0Fh, bit 7 of byte 1 not set, at least 512 bytes given.
-unfoldable pub fillsBuffer : (block given : List ℕ) → Bool
-fillsBuffer block given = eqb (byte block 0) 0x0F && (ltb (byte block 1) 128 && leb 512 (length given))
-
-unfoldable pub cleanAfter : (d : ℕ) → (clean : Bool) → Call → Bool
-cleanAfter d clean Reset = true
-cleanAfter d clean (Command block given area) = pick (names d block) (clean || fillsBuffer block given) (clean && not (isWhole block))
-
-unfoldable pub inTurns : (d : ℕ) → (clean : Bool) → List Call → Bool
-inTurns d clean [] = true
-inTurns d clean (call ∷ calls) = inItsTurn d clean call && inTurns d (cleanAfter d clean call) calls
-
--- A fresh controller's buffer is clean.
-unfoldable pub SeparationInTurns : Type 0
-SeparationInTurns =
-    (d : ℕ) → d < 4 → (images₁ images₂ : List (List ℕ)) → imageOf d images₁ ≡ imageOf d images₂
-    → (calls₁ calls₂ : List Call) → callsOf d calls₁ ≡ callsOf d calls₂ → inTurns d true calls₁ ≡ true → inTurns d true calls₂ ≡ true
-    → SameFor d images₁ images₂ calls₁ calls₂
+Separation = SeparationExcluding excluded

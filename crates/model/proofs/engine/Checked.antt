@@ -1,11 +1,9 @@
 -- What it says of a command that its checks have passed: once for any row of the table that has the flag.
-use Prim.Native.Nat.{ℕ, zero, suc, _+_, _-_, _≤_, _<_}
+use Prim.Native.Nat.{ℕ, _+_, _-_, _≤_, _<_}
 use mathlib.Core.Path.{_≡_, refl, sym, subst, _∙_}
 use mathlib.Core.Logic.{_⊎_, inl, inr}
 use mathlib.Core.Bool.{Bool, true, false, not, _&&_, true≢false, false≢true}
-use mathlib.Core.List.{List, [], _∷_}
 use native.Mathlib.Omega.{arith}
-use lib.ListN.{getD}
 use lib.Dec.{ltb, eqb}
 use borrow.Author.Tests.{eqb-true, eqb-false, ltb-false}
 use Rattle.base.specs.Pick.{pick}
@@ -30,6 +28,7 @@ use Rattle.model.specs.declared.verdict.Verdict.the-variants.{Passed}
 use Rattle.model.specs.Block.{countOf}
 use Rattle.model.specs.Table.{Interleave, Address, Counted, Settled, SparedWhole, TableRow, applies, table, unknown, rowFor}
 use Rattle.model.specs.Checks.{withParams, interleaveWrong, pastEnd, notSpared, bytesOf, reachOf, hitsOf, inOrder, judgeOver, judge}
+use Rattle.model.proofs.engine.Rows.{none, also, each-row}
 use Rattle.model.proofs.engine.Judged.{passed-on, not-refused}
 
 -- ---- a command has one row
@@ -52,23 +51,14 @@ opcodeFor (Free Initialize) = 17
 opcodeFor Unknown = 2
 opcodeFor Copy = 32
 
-data Every (P : TableRow → Type 0) : List TableRow → Type 0 where
-  none : Every P []
-  also : {e : TableRow} {es : List TableRow} → P e → Every P es → Every P (e ∷ es)
-
-every-row : (P : TableRow → Type 0) (es : List TableRow) (e : TableRow) → Every P es → P e → (n : ℕ) → P (getD es n e)
-every-row P [] e none h n = h
-every-row P (x ∷ es) e (also y ys) h zero = y
-every-row P (x ∷ es) e (also y ys) h (suc n) = every-row P es e ys h n
-
 pub row-of : (opcode : ℕ) → rowFor opcode ≡ rowFor (opcodeFor (rowFor opcode .command))
 unfolding rowFor opcodeFor
 row-of opcode =
-    every-row (λ e. e ≡ rowFor (opcodeFor (e .command))) table unknown
+    each-row (λ n e. e ≡ rowFor (opcodeFor (e .command))) table unknown
     (also refl (also refl (also refl (also refl (also refl (also refl (also refl (also refl (also refl
     (also refl (also refl (also refl (also refl (also refl (also refl (also refl (also refl (also refl
     (also refl (also refl (also refl (also refl (also refl (also refl (also refl (also refl (also refl
-    (also refl (also refl (also refl (also refl (also refl (also refl none))))))))))))))))))))))))))))))))) refl opcode
+    (also refl (also refl (also refl (also refl (also refl (also refl none))))))))))))))))))))))))))))))))) (λ n past. refl) opcode
 
 and-off : (a b : Bool) → a ≡ true → (a && b) ≡ false → b ≡ false
 and-off true b e h = h

@@ -12,11 +12,12 @@ use Rattle.model.specs.Block.{blockOf, isCopy, isWhole}
 use Rattle.model.specs.Record.{driveAt, Effect}
 use Rattle.model.specs.Engine.{Result, imageOf, obey, left, onDrive, loaded, fresh, resetOf}
 use Rattle.model.specs.Claim.{System, Call, Reset, Command, replied, leftBy, called, begin}
-use Rattle.model.specs.Separation.{usesBuffer, fillsBuffer, heardOf, Own, ownOf}
-use Rattle.model.proofs.engine.Assembled.{drive-below, drives-length, own-entry, own-image, fresh-drive}
-use Rattle.model.proofs.engine.Beyond.{outside-kept}
+use Rattle.model.specs.Separation.{usesBuffer, heardOf, Own, ownOf}
+use Rattle.model.specs.Turns.{fillsBuffer}
+use Rattle.model.proofs.engine.Assembled.{drive-below, drives-length, own-entry, fresh-drive}
 use Rattle.model.proofs.engine.Blocks.{by-block, of-one-drive}
 use Rattle.model.proofs.engine.CopyLeaves.{copy-leaves}
+use Rattle.model.proofs.records.Calls.{its-image}
 use Rattle.model.proofs.separation.Unbuffered.{SameBut, obey-unbuffered}
 use Rattle.model.proofs.separation.Filled.{obey-fills}
 use Rattle.model.proofs.separation.Apart.{same-own}
@@ -86,10 +87,9 @@ module _ (block given area : List ℕ) (whole : isWhole block ≡ true) (other :
   own-one : (s : System) → Four s → ownOf drive (called s command .1) ≡ record { entry = done s .ending .entry; image = done s .image }
   unfolding called replied ownOf
   own-one s four =
-      let long = outside-kept (blockOf block) given (length area) (driveAt (s .controller) drive) (s .controller .buffer) (imageOf drive (s .images)) 0 (omega arith) (λ is. refl) .len in
       ap (λ (r : Result). ownOf drive (replied r .1)) (left-one s)
       ∙ same-own (own-entry drive (done s) (s .controller) area (s .images) (omega (arith, drive-below block, four)))
-      (own-image drive (done s) (s .controller) area (s .images) long)
+      (its-image (s .controller) block given area (s .images))
 
   buffer-one : (s : System) → called s command .1 .controller .buffer ≡ done s .buffer
   unfolding called replied left

@@ -1,10 +1,10 @@
--- A call that is not of drive d leaves what drive d has: its entry and its image.
+-- A call that does not concern drive d leaves what drive d has: its entry and its image.
 use Prim.Native.Nat.{ℕ, _/_, _%_}
-use mathlib.Core.Path.{_≡_, refl, sym, _∙_}
+use mathlib.Core.Path.{_≡_, refl, sym}
 use mathlib.Core.Bool.{true, false, _&&_, _||_, true≢false}
 use mathlib.Core.List.{List}
 use lib.Dec.{eqb}
-use borrow.Author.Tests.{eq-eqb}
+use borrow.Author.Tests.{eqb-false}
 use Rattle.base.specs.Byte.{byte}
 use Rattle.base.proofs.Bools.{or-off}
 use Rattle.model.specs.declared.record.Drive.{Drive}
@@ -13,29 +13,29 @@ use Rattle.model.specs.Block.{blockOf, copyOf, isCopy, isWhole}
 use Rattle.model.specs.Record.{driveAt}
 use Rattle.model.specs.Engine.{Result, imageOf, onDrive, execute}
 use Rattle.model.specs.Claim.{System, Call, Reset, Command, replied, leftBy, called}
-use Rattle.model.specs.Separation.{names, isOf, Own, ownOf}
+use Rattle.model.specs.Separation.{names, concerns, Own, ownOf}
 use Rattle.model.proofs.engine.Assembled.{other-entry, other-image}
 use Rattle.model.proofs.engine.Blocks.{by-block}
 use Rattle.model.proofs.engine.CopyLeaves.{copy-leaves}
 
 -- ---- What names no drive d
 unnamed : (n d : ℕ) → eqb n d ≡ false → d ≡ n → ⊥
-unnamed n d e is = true≢false (sym (eq-eqb n d (sym is)) ∙ e)
+unnamed n d e is = eqb-false n d e (sym is)
 
 module _ (d : ℕ) (block : List ℕ) (whole : isWhole block ≡ true) (off : names d block ≡ false) where
   either-off : (eqb (byte block 1 / 32 % 4) d || (isCopy block && eqb (byte block 5 / 32 % 4) d)) ≡ false
   unfolding names
   either-off = rw whole at off
 
-  pub not-first : d ≡ blockOf block .drive → ⊥
+  not-first : d ≡ blockOf block .drive → ⊥
   unfolding blockOf
   not-first = unnamed _ d (or-off (eqb (byte block 1 / 32 % 4) d) _ either-off .0)
 
-  pub not-source : d ≡ copyOf block .from .drive → ⊥
+  not-source : d ≡ copyOf block .from .drive → ⊥
   unfolding copyOf blockOf
   not-source = unnamed _ d (or-off (eqb (byte block 1 / 32 % 4) d) _ either-off .0)
 
-  pub not-target : isCopy block ≡ true → d ≡ copyOf block .to .drive → ⊥
+  not-target : isCopy block ≡ true → d ≡ copyOf block .to .drive → ⊥
   unfolding copyOf blockOf
   not-target copy =
       let second : (isCopy block && eqb (byte block 5 / 32 % 4) d) ≡ false = or-off (eqb (byte block 1 / 32 % 4) d) _ either-off .1 in
@@ -63,8 +63,8 @@ module _ (d : ℕ) (c : Controller) (block given area : List ℕ) (images : List
       ))
       (λ none. (refl, refl))
 
-pub call-apart : (d : ℕ) (s : System) (call : Call) → isOf d call ≡ false → ownOf d (called s call .1) ≡ ownOf d s
-unfolding isOf ownOf called leftBy replied
+pub call-apart : (d : ℕ) (s : System) (call : Call) → concerns d call ≡ false → ownOf d (called s call .1) ≡ ownOf d s
+unfolding concerns ownOf called leftBy replied
 call-apart d s Reset off = absurd (true≢false off)
 call-apart d s (Command block given area) off =
     let kept = execute-apart d (s .controller) block given area (s .images) off in

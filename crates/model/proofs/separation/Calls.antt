@@ -1,5 +1,5 @@
--- The two lemmas, for every call: a call that is not of drive d leaves what drive d has, and what a call of drive d replies and leaves there
--- depends on that alone.
+-- The two lemmas, for every call: one that does not concern drive d leaves what drive d has; of one that does, what it replies and leaves
+-- there depends on that alone, and on the buffer where it uses it.
 use Prim.Native.Nat.{ℕ, _/_, _%_, _<_}
 use mathlib.Core.Path.{_≡_, refl, sym, ap, subst, _∙_}
 use mathlib.Core.Bool.{Bool, true, false, not, _&&_, _||_, true≢false, false≢true}
@@ -13,7 +13,8 @@ use Rattle.base.proofs.Bools.{both-true, not-true}
 use Rattle.model.specs.Block.{blockOf, isCopy, isWhole}
 use Rattle.model.specs.Engine.{Result}
 use Rattle.model.specs.Claim.{System, Call, Reset, Command, replied, leftBy, called}
-use Rattle.model.specs.Separation.{names, isOf, usesBuffer, inItsTurn, fillsBuffer, cleanAfter}
+use Rattle.model.specs.Separation.{names, concerns, usesBuffer}
+use Rattle.model.specs.Turns.{inItsTurn, fillsBuffer, cleanAfter}
 use Rattle.model.proofs.engine.Blocks.{not-whole}
 use Rattle.model.proofs.separation.Apart.{call-apart}
 use Rattle.model.proofs.separation.Alike.{call-four, Alike, AlikeAfter, reset-alike, command-alike}
@@ -55,10 +56,10 @@ module _ (d : ℕ) (block : List ℕ) (on : names d block ≡ true) where
       (command-alike block given area named-whole other clean s₁ s₂ (subst (λ (d : ℕ). Alike d clean s₁ s₂) (sym at) alike)
       (clean || fillsBuffer block given) (or-on clean (fillsBuffer block given)) may)
 
--- ---- For every call of drive d: what it replies and what drive d has after it depend on what drive d had alone
-pub call-alike : (d : ℕ) → d < 4 → (clean : Bool) (s₁ s₂ : System) (call : Call) → isOf d call ≡ true → inItsTurn d clean call ≡ true
+-- ---- For every call that concerns drive d: from systems that are alike it replies the same, and leaves them alike
+pub call-alike : (d : ℕ) → d < 4 → (clean : Bool) (s₁ s₂ : System) (call : Call) → concerns d call ≡ true → inItsTurn d clean call ≡ true
     → Alike d clean s₁ s₂ → AlikeAfter d (cleanAfter d clean call) s₁ s₂ call
-unfolding isOf inItsTurn cleanAfter
+unfolding concerns inItsTurn cleanAfter
 call-alike d h clean s₁ s₂ Reset on fair alike = reset-alike d h s₁ s₂ (alike .own)
 call-alike d h clean s₁ s₂ (Command block given area) on fair alike =
     let may = named-turn d block on clean fair in
@@ -66,21 +67,21 @@ call-alike d h clean s₁ s₂ (Command block given area) on fair alike =
     subst (λ (clean : Bool). AlikeAfter d clean s₁ s₂ (Command block given area)) (sym after)
     (named-alike d block on given area clean s₁ s₂ (may .0) (may .1) alike)
 
--- ---- For every other call: drive d has what it had; only a block that is not whole leaves the buffer for certain
+-- ---- For every other call: they stay alike; only a block that is not whole leaves the buffer for certain
 not-whole-buffer : (s : System) (block given area : List ℕ) → isWhole block ≡ false
     → called s (Command block given area) .1 .controller .buffer ≡ s .controller .buffer
 unfolding called leftBy replied
 not-whole-buffer s block given area none = ap (λ (r : Result). r .outcome .controller .buffer) (not-whole (s .controller) block given area (s .images) none)
 
-other-buffer : (d : ℕ) (clean : Bool) (s : System) (call : Call) → isOf d call ≡ false → cleanAfter d clean call ≡ true
+other-buffer : (d : ℕ) (clean : Bool) (s : System) (call : Call) → concerns d call ≡ false → cleanAfter d clean call ≡ true
     → (clean ≡ true) × (called s call .1 .controller .buffer ≡ s .controller .buffer)
-unfolding isOf cleanAfter
+unfolding concerns cleanAfter
 other-buffer d clean s Reset off is = absurd (true≢false off)
 other-buffer d clean s (Command block given area) off is =
     let both = both-true clean _ (sym (pick-false (names d block) _ _ off) ∙ is) in
     (both .0, not-whole-buffer s block given area (not-true (isWhole block) (both .1)))
 
-pub apart-alike : (d : ℕ) (clean : Bool) (s₁ s₂ : System) (call : Call) → isOf d call ≡ false → Alike d clean s₁ s₂
+pub apart-alike : (d : ℕ) (clean : Bool) (s₁ s₂ : System) (call : Call) → concerns d call ≡ false → Alike d clean s₁ s₂
     → Alike d (cleanAfter d clean call) (called s₁ call .1) s₂
 apart-alike d clean s₁ s₂ call off alike = record {
   four₁ = call-four s₁ call (alike .four₁);

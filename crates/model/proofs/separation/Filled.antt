@@ -22,7 +22,7 @@ use Rattle.model.specs.Checks.{judged, isUnknown, blockWrong, reachOf, b
 use Rattle.model.specs.Record.{unlessNamed}
 use Rattle.model.specs.Commands.{doFree, carryOut}
 use Rattle.model.specs.Engine.{viewOf, obey}
-use Rattle.model.specs.Separation.{fillsBuffer}
+use Rattle.model.specs.Turns.{fillsBuffer}
 
 module _ (b : Block) (is : b .opcode ≡ 0x0F) (low : b .top ≡ false) where
   passes : (v : View) (given area : ℕ) → 512 ≤ given → judge b v given area ≡ Passed

@@ -1,9 +1,9 @@
 -- A command that does not use the buffer leaves the same with any buffer, but for the buffer itself.
-use Prim.Native.Nat.{ℕ, zero, suc, _≤_, _/_, _%_}
+use Prim.Native.Nat.{ℕ, _≤_, _/_, _%_}
 use mathlib.Core.Path.{_≡_, refl, _∙_}
 use mathlib.Core.Bool.{Bool, true, false, _&&_, _||_, true≢false}
-use mathlib.Core.List.{List, [], _∷_}
-use lib.ListN.{length, getD}
+use mathlib.Core.List.{List, []}
+use lib.ListN.{length}
 use native.Mathlib.Omega.{arith}
 use lib.Dec.{eqb}
 use borrow.Author.Tests.{ne-eqb}
@@ -28,11 +28,12 @@ use Rattle.model.specs.declared.record.Ending.{Ending}
 use Rattle.model.specs.declared.verdict.Verdict.{Verdict}
 use Rattle.model.specs.declared.verdict.Verdict.the-variants.{Refused, Faulty, Passed}
 use Rattle.model.specs.Block.{blockOf, fromBuffer}
-use Rattle.model.specs.Table.{TableRow, table, unknown, rowFor}
+use Rattle.model.specs.Table.{table, unknown, rowFor}
 use Rattle.model.specs.Record.{unless, unlessNamed, Effect, effect, Made}
 use Rattle.model.specs.Commands.{fillOf, formatDrive, assignAlternate, transferred, read, write, doFree, doTrack, doSectors, asEffect, doDisk, carryOut}
 use Rattle.model.specs.Engine.{viewOf, obey}
 use Rattle.model.specs.Separation.{usesBuffer}
+use Rattle.model.proofs.engine.Rows.{none, also, each-row}
 
 -- ---- Which commands use it, where control bit 5 is this
 unfoldable trackUses : (bit : Bool) → TrackCommand → Bool
@@ -59,16 +60,6 @@ uses bit Copy = false
 -- the opcodes that the statement names are theirs
 abbrev opcodeUses : (bit : Bool) → (opcode : ℕ) → Bool
 opcodeUses bit opcode = eqb opcode 0x10 || ((eqb opcode 0x04 || (eqb opcode 0x06 || eqb opcode 0x0E)) && bit)
-
--- what holds of each row of a list at its place, and of another row past the last, holds at every place
-data Each : (ℕ → TableRow → Type 0) → List TableRow → Type 1 where
-  none : {P : ℕ → TableRow → Type 0} → Each P []
-  also : {P : ℕ → TableRow → Type 0} {e : TableRow} {es : List TableRow} → P 0 e → Each (λ n. P (suc n)) es → Each P (e ∷ es)
-
-each-row : (P : ℕ → TableRow → Type 0) (es : List TableRow) (e : TableRow) → Each P es → ((n : ℕ) → length es ≤ n → P n e) → (n : ℕ) → P n (getD es n e)
-each-row P [] e none past n = past n (omega arith)
-each-row P (x ∷ es) e (also y ys) past zero = y
-each-row P (x ∷ es) e (also y ys) past (suc n) = each-row (λ k. P (suc k)) es e ys (λ k l. past (suc k) (omega arith)) n
 
 past-uses : (bit : Bool) (n : ℕ) → 33 ≤ n → false ≡ opcodeUses bit n
 past-uses bit n l =

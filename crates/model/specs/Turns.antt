@@ -1,0 +1,56 @@
+-- Request E6 for departments that take turns. Of what is excluded, Read Buffer and control bit 5 do no harm where the buffer holds nothing
+-- of other drives: with a Reset before each change of department. A Copy that names the drive stays excluded.
+use Prim.Native.Nat.{ℕ, _<_}
+use mathlib.Core.Path.{_≡_}
+use mathlib.Core.Bool.{Bool, true, not, _&&_, _||_}
+use mathlib.Core.List.{List, [], _∷_}
+use lib.ListN.{length}
+use lib.Dec.{leb, ltb, eqb}
+use Rattle.base.specs.Pick.{pick}
+use Rattle.base.specs.Byte.{byte}
+use Rattle.model.specs.Block.{isCopy, isWhole}
+use Rattle.model.specs.Engine.{imageOf}
+use Rattle.model.specs.Claim.{Call, Reset, Command}
+use Rattle.model.specs.Separation.{names, callsOf, usesBuffer, allMayStand, SameFor}
+
+-- ---- The buffer is clean while it holds nothing of other drives. Reset zeroes it, and a Write Buffer of drive d that is taken fills it:
+-- opcode 0Fh, bit 7 of byte 1 not set, at least 512 bytes given. A command that names other drives only may leave theirs there; a
+-- block that is not whole leaves nothing.
+unfoldable pub fillsBuffer : (block given : List ℕ) → Bool
+fillsBuffer block given = eqb (byte block 0) 0x0F && (ltb (byte block 1) 128 && leb 512 (length given))
+
+unfoldable pub cleanAfter : (d : ℕ) → (clean : Bool) → Call → Bool
+cleanAfter d clean Reset = true
+cleanAfter d clean (Command block given area) = pick (names d block) (clean || fillsBuffer block given) (clean && not (isWhole block))
+
+-- A command that names drive d is in its turn if it is no Copy, and does not use the buffer or finds it clean.
+unfoldable pub inItsTurn : (d : ℕ) → (clean : Bool) → Call → Bool
+inItsTurn d clean Reset = true
+inItsTurn d clean (Command block given area) = not (names d block) || (not (isCopy block) && (clean || not (usesBuffer block)))
+
+unfoldable pub inTurns : (d : ℕ) → (clean : Bool) → List Call → Bool
+inTurns d clean [] = true
+inTurns d clean (call ∷ calls) = inItsTurn d clean call && inTurns d (cleanAfter d clean call) calls
+
+-- A fresh controller's buffer is clean.
+unfoldable pub SeparationInTurns : Type 0
+SeparationInTurns =
+    (d : ℕ) → d < 4 → (images₁ images₂ : List (List ℕ)) → imageOf d images₁ ≡ imageOf d images₂
+    → (calls₁ calls₂ : List Call) → callsOf d calls₁ ≡ callsOf d calls₂ → inTurns d true calls₁ ≡ true → inTurns d true calls₂ ≡ true
+    → SameFor d images₁ images₂ calls₁ calls₂
+
+-- ---- A Reset before each change of department: drive d is alone as long as no command has named other drives only since the last Reset,
+-- or the start, and it is named only while it is alone.
+unfoldable pub resetBetween : (d : ℕ) → (alone : Bool) → List Call → Bool
+resetBetween d alone [] = true
+resetBetween d alone (Reset ∷ calls) = resetBetween d true calls
+resetBetween d alone (Command block given area ∷ calls) =
+    (alone || not (names d block)) && resetBetween d (alone && (names d block || not (isWhole block))) calls
+
+-- Then nothing but Copy is excluded.
+unfoldable pub SeparationByResets : Type 0
+SeparationByResets =
+    (d : ℕ) → d < 4 → (images₁ images₂ : List (List ℕ)) → imageOf d images₁ ≡ imageOf d images₂
+    → (calls₁ calls₂ : List Call) → callsOf d calls₁ ≡ callsOf d calls₂ → allMayStand isCopy (callsOf d calls₁) ≡ true
+    → resetBetween d true calls₁ ≡ true → resetBetween d true calls₂ ≡ true
+    → SameFor d images₁ images₂ calls₁ calls₂
