@@ -45,7 +45,7 @@ enum {
     LANTHEWG_OPCODE_SEEK = 0x0B,
     LANTHEWG_OPCODE_ASSIGN_ALTERNATE = 0x0E,
     LANTHEWG_OPCODE_WRITE_BUFFER = 0x0F,
-    LANTHEWG_OPCODE_READ_BUFFER = 0x10, /* one buffer for all drives: what another drive's command left is in it */
+    LANTHEWG_OPCODE_READ_BUFFER = 0x10, /* one buffer for all drives: what another drive's command left may be in it */
     LANTHEWG_OPCODE_INITIALIZE = 0x11,
     LANTHEWG_OPCODE_COPY = 0x20 /* see below */
 };

@@ -1,4 +1,4 @@
--- Request E6 at work: drive 0 is one department's, drive 1 the other's; and a floppy, drive 2. The answers are document 01's, on images of
+-- Request E6 at work: drive 0 is one department's, drive 1 the other's; and a floppy, drive 2. The answers are the papers', on images of
 -- zeros.
 use Prim.Native.Nat.{ℕ}
 use mathlib.Core.Path.{_≡_, refl, ap}
@@ -132,16 +132,16 @@ unfolding SeparationInTurns imageOf buffers-1 formats reads-0 resets buffers-0 f
     says callsIn callOf callsOf concerns names usesBuffer inItsTurn fillsBuffer cleanAfter inTurns pick isWhole blockLength isCopy
 turns-same = separated-in-turns 0 (omega arith) (allZeros 16912 8464 0 0) (allZeros 16912 0 0 0) refl _ _ refl refl refl
 
--- not so without a Reset; behind a Write Buffer that is refused, with 511 bytes, or fails, with bit 7; with a Copy
+-- not in turns: without a Reset; behind a Write Buffer that is refused, with 511 bytes, or fails, with bit 7; with a Copy
 no-turn : (inTurns 0 true (callsIn (buffers-1 ∷ own-read 7)) ≡ false)
-    × (inTurns 0 true (callsIn (buffers-1 ∷ buffers-0 (replicate 511 9) ∷ own-read 7)) ≡ false)
+    × (inTurns 0 true (callsIn (buffers-1 ∷ sent (six 0x0F 0 0 0 0 0) (replicate 511 9) [] ∷ own-read 7)) ≡ false)
     × (inTurns 0 true (callsIn (buffers-1 ∷ sent (six 0x0F 0x80 0 0 0 0) (replicate 512 9) [] ∷ own-read 7)) ≡ false)
     × (inTurns 0 true (callsIn (resets ∷ sent copy-from [] [] ∷ [])) ≡ false)
 unfolding buffers-1 resets buffers-0 ten copy-from read-buffer own-read six sent says callsIn callOf concerns names usesBuffer inItsTurn fillsBuffer cleanAfter
     inTurns pick isWhole blockLength isCopy
 no-turn = (refl, refl, refl, refl)
 
--- With a Reset before each change of department, there and back, nothing but Copy is excluded; without one of them it is no such list.
+-- With a Reset before each change of department, there and back, nothing but Copy is excluded; without the one before drive 0's turn it is no such list.
 changing : (between : List Line) → List Line
 changing between = formats 0 1 ++ (own-read 0 ++ (resets ∷ formats 1 1 ++ (saves-1 ∷ between ++ (own-read 0 ++ filled-0 0))))
 
@@ -158,7 +158,7 @@ unfolding formats saves-1 reads-0 resets format-track filled-0 changing read-buf
     isWhole blockLength isCopy
 no-change = refl
 
--- ---- All of them with their answers, as document 01 has them
+-- ---- All of them with their answers, as the papers have them
 sessions-answered : Answers lens busy × Answers (lengthsOf 16912 0 0 0) quiet
     × Answers (lengthsOf 16912 8464 2192 0) (formats 0 1 ++ (buffers-1 ∷ floppy)) × Answers (lengthsOf 0 15 2192 99) floppy
     × Answers lens busy-turns × Answers (lengthsOf 16912 0 0 0) quiet-turns

@@ -1,5 +1,5 @@
 -- Request E6: each exclusion is needed. Drive 0 is one department's, drive 1 the other's, both hard disks with sectors of 256 bytes; the
--- answers are document 01's, on images of zeros.
+-- answers are the papers', on images of zeros.
 use Prim.Native.Nat.{ℕ, _*_}
 use mathlib.Core.Path.{_≡_, refl}
 use mathlib.Core.Bool.{Bool, true, false, not, _&&_}

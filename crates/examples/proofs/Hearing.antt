@@ -6,7 +6,7 @@ use mathlib.Core.Bool.{Bool, true, false, true≢false, false≢true}
 use mathlib.Core.List.{List, [], _∷_, map}
 use lib.ListN.{getD}
 use lib.Dec.{eqb}
-use borrow.Author.Tests.{eqb-true, eq-eqb}
+use borrow.Author.Tests.{eq-eqb}
 use Rattle.base.specs.Pick.{pick}
 use Rattle.base.specs.Same.{sameBytes}
 use Rattle.base.proofs.Bools.{both-true}
@@ -63,8 +63,8 @@ module _ (n₀ n₁ n₂ n₃ : ℕ) where
       let calls = map callOf (map (λ (l : Line). l .call) lines) in
       heard-told d _ calls ∙ ap (ofDrive d calls) (told-is _ lines (engine-answers n₀ n₁ n₂ n₃ lines answers calls (fed-back _)))
 
-  -- Two sessions with the same calls of drive d, among them one block that is excluded, and another answer to one of these calls:
-  -- with that block let in there is no separation.
+  -- Two sessions on images of zeros with the same calls that concern drive d, none of them out, whose written answers to the k-th of these
+  -- differ in byte i: a separation with these exclusions is false.
   pub refuted : (out : List ℕ → Bool) (d : ℕ) (lines₁ lines₂ : List Line) → d < 4
       → Answers (lengthsOf n₀ n₁ n₂ n₃) lines₁ → Answers (lengthsOf n₀ n₁ n₂ n₃) lines₂
       → callsOf d (callsIn lines₁) ≡ callsOf d (callsIn lines₂) → allMayStand out (callsOf d (callsIn lines₁)) ≡ true

@@ -1,5 +1,6 @@
--- Request E6 for departments that take turns. Of what is excluded, Read Buffer and control bit 5 do no harm where the buffer holds nothing
--- of other drives: with a Reset before each change of department. A Copy that names the drive stays excluded.
+-- Request E6 for departments that take turns. Read Buffer and control bit 5 do no harm where the buffer holds nothing of other drives: from
+-- the start, a Reset, or a Write Buffer of the drive that is taken, until a command names other drives only. So with a Reset before each
+-- change of department nothing but Copy is excluded.
 use Prim.Native.Nat.{ℕ, _<_}
 use mathlib.Core.Path.{_≡_}
 use mathlib.Core.Bool.{Bool, true, not, _&&_, _||_}
@@ -15,7 +16,7 @@ use Rattle.model.specs.Separation.{names, callsOf, usesBuffer, allMaySta
 
 -- ---- The buffer is clean while it holds nothing of other drives. Reset zeroes it, and a Write Buffer of drive d that is taken fills it:
 -- opcode 0Fh, bit 7 of byte 1 not set, at least 512 bytes given. A command that names other drives only may leave theirs there; a
--- block that is not whole leaves nothing.
+-- block that is not whole leaves nothing. Of a Copy that names drive d nothing is meant here: it is never in its turn.
 unfoldable pub fillsBuffer : (block given : List ℕ) → Bool
 fillsBuffer block given = eqb (byte block 0) 0x0F && (ltb (byte block 1) 128 && leb 512 (length given))
 
@@ -39,8 +40,8 @@ SeparationInTurns =
     → (calls₁ calls₂ : List Call) → callsOf d calls₁ ≡ callsOf d calls₂ → inTurns d true calls₁ ≡ true → inTurns d true calls₂ ≡ true
     → SameFor d images₁ images₂ calls₁ calls₂
 
--- ---- A Reset before each change of department: drive d is alone as long as no command has named other drives only since the last Reset,
--- or the start, and it is named only while it is alone.
+-- ---- A Reset before each change to drive d's department: drive d is alone as long as no command has named other drives only since the
+-- last Reset, or the start, and it is named only while it is alone.
 unfoldable pub resetBetween : (d : ℕ) → (alone : Bool) → List Call → Bool
 resetBetween d alone [] = true
 resetBetween d alone (Reset ∷ calls) = resetBetween d true calls

@@ -49,11 +49,11 @@ fn drive_in(byte: u8) -> usize {
 
 /// Whether a block names the drive: a Copy names two.
 pub fn names(drive: usize, block: &[u8]) -> bool {
-    let copies_to = |block: &[u8]| block[0] == COPY && drive_in(block[5]) == drive;
-    is_whole(block) && (drive_in(block[1]) == drive || copies_to(block))
+    is_whole(block)
+        && (drive_in(block[1]) == drive || block[0] == COPY && drive_in(block[5]) == drive)
 }
 
-/// What a block is that names the drive and is excluded.
+/// Which excluded kind a block is for the drive, if any.
 pub fn excluded(drive: usize, block: &[u8]) -> Option<Excluded> {
     if !names(drive, block) {
         return None;
@@ -79,9 +79,9 @@ fn fills_buffer(block: &[u8], given: &[u8]) -> bool {
 pub enum Rule {
     /// None: the request's own lists.
     Apart,
-    /// Read Buffer and bit 5, where no whole block that names other drives only came since the last
-    /// Reset or Write Buffer of the drive: the departments take turns, and one of the two stands
-    /// before each turn.
+    /// Read Buffer and bit 5, where no whole block that names other drives only came since the start,
+    /// the last Reset, or the last Write Buffer of the drive that was taken: the departments take
+    /// turns.
     Turns,
     /// One kind, anywhere: then the lists may show each other.
     LetIn(Excluded),
@@ -106,7 +106,8 @@ pub struct Difference {
 }
 
 impl Difference {
-    /// Seen after one of the own calls, or at the end.
+    /// Seen after one of the own calls, which are counted here without the others', or at the end. It
+    /// may have come by what stands before that call.
     fn new(seed: u64, pair: &Pair, index: usize, what: String) -> Difference {
         let step = pair.own.get(index);
         let what = step.map_or(format!("at the end: {what}"), |s| at_call(index as u32, s, what));

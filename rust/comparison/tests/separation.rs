@@ -138,7 +138,7 @@ fn area_shows_buffer(engine: &mut Controller, mut lent: Lent) -> Answer {
     answer
 }
 
-/// A good end is an error while another drive's sense has a code: the answer alone shows it.
+/// A good end is an error while any drive's sense has a code: the answer alone shows it.
 fn error_lingers(engine: &mut Controller, mut lent: Lent) -> Answer {
     let mut answer = lent.right(engine);
     if answer.number == 0 && engine.drives.iter().any(|drive| drive.sense[0] != 0) {
@@ -171,7 +171,7 @@ fn idle_image_touched(engine: &mut Controller, mut lent: Lent) -> Answer {
     answer
 }
 
-/// A refused block is left in the buffer.
+/// A block of six or ten bytes that is not whole is left in the buffer.
 fn stray_block_kept(engine: &mut Controller, mut lent: Lent) -> Answer {
     let answer = lent.right(engine);
     if answer.number == 1 {

@@ -16,8 +16,8 @@ pub const OPCODE_WRITE: u8 = 0x0A;
 pub const OPCODE_SEEK: u8 = 0x0B;
 pub const OPCODE_ASSIGN_ALTERNATE: u8 = 0x0E;
 pub const OPCODE_WRITE_BUFFER: u8 = 0x0F;
-/// There is one buffer for all drives: what another drive's command left is in it, until a Reset or
-/// a Write Buffer.
+/// There is one buffer for all drives: what another drive's command left may be in it, until a Reset
+/// or a Write Buffer that ends well.
 pub const OPCODE_READ_BUFFER: u8 = 0x10;
 pub const OPCODE_INITIALIZE: u8 = 0x11;
 /// Copy Blocks, the one command of two drives. Its block: 0 opcode; 1 to 3 source drive and address,

@@ -39,7 +39,7 @@ struct Start {
 impl Start {
     /// Zero images, or damaged ones, most of them with labels.
     fn new(mut random: Random) -> Start {
-        let Start { images, mut caller } = if random.chance(40) {
+        let mut start = if random.chance(40) {
             let Damaged { images, caller, .. } = random::damaged(random, Scale::Small);
             Start { images, caller }
         } else {
@@ -47,8 +47,8 @@ impl Start {
             let images = lengths.map(|length| vec![0; length]);
             Start { images, caller: Caller::new(random, Scale::Small, lengths) }
         };
-        caller.begin(&images);
-        Start { images, caller }
+        start.caller.begin(&start.images);
+        start
     }
 }
 
@@ -123,7 +123,7 @@ fn cleans(call: &Call) -> bool {
     }
 }
 
-/// Whether one of the drive's calls before the buffer is clean again is of an excluded kind.
+/// Whether the drive uses the buffer before its next call that cleans it.
 fn borrows_soon(drive: usize, own: &[Step]) -> bool {
     let mut soon = own.iter().map(|step| &step.call).take_while(|call| !cleans(call));
     soon.any(|call| match call {

@@ -3,9 +3,9 @@
 use std::fmt;
 use std::mem::replace;
 
-use super::{fills_buffer, Excluded, Pair, Rule};
+use super::{fills_buffer, Excluded, Pair, Rule, COPY};
 use crate::engine::{Call, Step};
-use crate::paper::{Kind, COPY};
+use crate::paper::Kind;
 use crate::plain::Answer;
 use crate::tally::{Event, Starts, Tally, CODES, OPCODES};
 
@@ -162,8 +162,8 @@ impl Reached {
         let_in && event.is_possible(Starts::Damaged, kind)
     }
 
-    /// Totals by name, and how many there have to be at least for 100 pairs: about half of what there
-    /// are, so that lists which reach little are noticed.
+    /// Totals by name, and how many there have to be at least for 100 pairs: half of what there are,
+    /// or more, so that lists which reach little are noticed.
     fn totals(&self) -> [(&'static str, u64, u64); 15] {
         let turns = self.rule == Rule::Turns;
         [
@@ -180,8 +180,8 @@ impl Reached {
             ("buffer used behind a Reset", self.turns, if turns { 13 } else { 0 }),
             ("behind a Write Buffer", self.refills, if turns { 2 } else { 0 }),
             ("excluded, left out", self.left_out, if turns { 70 } else { 180 }),
-            ("other calls", self.others.calls, 1_200),
-            ("blocks of a wrong length", self.others.no_block, 100),
+            ("other calls", self.others.calls, if turns { 2_400 } else { 1_200 }),
+            ("blocks of a wrong length", self.others.no_block, if turns { 450 } else { 100 }),
         ]
     }
 
