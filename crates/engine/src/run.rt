@@ -6,6 +6,7 @@ use checks::block::is_whole;
 use copies::run::run_copy;
 use dispatch::obey::obey;
 use drives::entry::drive_at;
+use drives::entry::with_drive;
 use endings::ending::bare_answer;
 use model::block::Block;
 use model::record::Answer;
@@ -14,22 +15,12 @@ use model::record::Drive;
 use model::record::Ending;
 use model::record::Outcome;
 ghost use mathlib.Core.Path.{_≡_};
-ghost use Prim.Native.Nat.{_<_};
 ghost use lib.ListN.{length, set};
 ghost use mathlib.Core.Bool.{true};
 ghost use Rattle.model.specs.Block.{blockOf, isWhole};
 ghost use Rattle.model.specs.Engine.{imagesOf, execute};
 ghost use Rattle.model.specs.Premises.{WellFormed};
 ghost use Rattle.engine.specs.Results.{lentNow, obeyed, resultNow};
-
-fn with_drive(drives: [Drive; 4], drive: u8, entry: Drive) -> [Drive; 4]
-    requires { ⌜ drive < 4 ⌝ }
-    ensures { λ r. ⌜ r ≡ set drives drive entry ⌝ }
-{
-    let mut other = drives;
-    other[drive as usize] = entry;
-    other
-}
 
 // A command on the image of the drive that it names.
 fn on_images(
