@@ -18,7 +18,7 @@
 #include <stddef.h>
 #include <stdint.h>
 
-#define LANTHEWG_VERSION "0.6.0"
+#define LANTHEWG_VERSION "0.6.1"
 
 /* An answer that nobody looks at is a warning, where the compiler can say so. */
 #if defined(__GNUC__)

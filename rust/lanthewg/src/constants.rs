@@ -1,7 +1,7 @@
 //! The header's constants under the same names, without `LANTHEWG_` (a test holds them equal).
 
 /// The version of header, wrapper and engine.
-pub const VERSION: &str = "0.6.0";
+pub const VERSION: &str = "0.6.1";
 
 // Byte 0 of a block. Byte 1 has 32 × drive. A block has BLOCK_SIZE bytes, a Copy's COPY_BLOCK_SIZE.
 pub const OPCODE_TEST_READY: u8 = 0x00;
