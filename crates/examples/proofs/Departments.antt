@@ -30,12 +30,11 @@ use Rattle.model.specs.Engine.{viewOf, obey, imageOf, left, onDrive, execute, l
 use Rattle.model.specs.Record.{blankDrive, driveAt, sensed, settingIn, failed, good, unlessNamed}
 use Rattle.model.specs.Commands.{doFree, carryOut}
 use Rattle.model.specs.Claim.{replies, Reset, Command as Commanded, replied, leftBy, called, engineAtEnd, begin}
-use Rattle.model.specs.Separation.{names, concerns, callsOf, usesBuffer, excluded, mayStand, allMayStand, Heard, heardOf, heard, Own, ownOf, SameFor, SeparationExcluding, Separation}
+use Rattle.model.specs.Separation.{names, concerns, callsOf, usesBuffer, excluded, mayStand, allMayStand, Heard, heardOf, heard, Own, ownOf, SameFor, SeparationWhere, SeparationExcluding, Separation}
 use Rattle.model.specs.Turns.{fillsBuffer, cleanAfter, inItsTurn, inTurns, SeparationInTurns, resetBetween, SeparationByResets}
 use Rattle.model.proofs.anchors.Session.{Line, told, allTold, says, four, six, config, sent, lengthsOf, Answers}
 use Rattle.model.proofs.readers.Sessions.{allZeros, callOf}
-use Rattle.model.proofs.separation.Separated.{separated-in-turns}
-use Rattle.model.proofs.separation.Turns.{separated, separated-by-resets}
+use Rattle.model.proofs.separation.Turns.{separated, separated-in-turns, separated-by-resets}
 use Rattle.examples.proofs.Hearing.{callsIn}
 use Rattle.examples.proofs.Exclusions.{ten, buffers-1, formats, saves-1, reads-0, read-buffer, own-read, format-track, copy-from, lens}
 
@@ -59,9 +58,9 @@ quiet =
     ++ (saves-0 ∷ sent (six 0x02 0x40 0 0 0 0) [] (says 0 0x42 0 0 []) ∷ reads-0 8 ∷ sent (six 0 0x60 0 0 0 0) [] (says 0 0x62 0 0 []) ∷ [])
 
 days-same : SameFor 0 (allZeros 16912 8464 0 0) (allZeros 16912 0 0 0) (callsIn busy) (callsIn quiet)
-unfolding Separation SeparationExcluding imageOf ten buffers-1 formats saves-1 reads-0 saves-0 busy quiet six config sent says callsIn callOf callsOf concerns
+unfolding Separation SeparationExcluding SeparationWhere imageOf ten buffers-1 formats saves-1 reads-0 saves-0 busy quiet six config sent says callsIn callOf callsOf concerns
     names usesBuffer excluded mayStand allMayStand pick isWhole blockLength isCopy
-days-same = separated 0 (omega arith) (allZeros 16912 8464 0 0) (allZeros 16912 0 0 0) refl (callsIn busy) (callsIn quiet) refl refl
+days-same = separated 0 (omega arith) (allZeros 16912 8464 0 0) (allZeros 16912 0 0 0) refl (callsIn busy) (callsIn quiet) refl refl refl
 
 -- that is, in words of its own: what is heard, and at the end the entry and every byte of the image
 heardAs : Heard → Answer × List ℕ
@@ -105,9 +104,9 @@ floppy =
     ∷ []
 
 floppy-same : SameFor 2 (allZeros 16912 8464 2192 0) (allZeros 0 15 2192 99) (callsIn (formats 0 1 ++ (buffers-1 ∷ floppy))) (callsIn floppy)
-unfolding Separation SeparationExcluding imageOf buffers-1 formats resets floppy four six config sent says callsIn callOf callsOf concerns names usesBuffer
+unfolding Separation SeparationExcluding SeparationWhere imageOf buffers-1 formats resets floppy four six config sent says callsIn callOf callsOf concerns names usesBuffer
     excluded mayStand allMayStand pick isWhole blockLength isCopy
-floppy-same = separated 2 (omega arith) (allZeros 16912 8464 2192 0) (allZeros 0 15 2192 99) refl _ _ refl refl
+floppy-same = separated 2 (omega arith) (allZeros 16912 8464 2192 0) (allZeros 0 15 2192 99) refl _ _ refl refl refl
 
 -- ---- In turns. From the start, behind a Reset and behind the department's own Write Buffer, Read Buffer hands over and bit 5 fills with
 -- nothing of drive 1's; a block that is not whole takes no turn.
@@ -128,7 +127,7 @@ quiet-turns =
     ++ (formats 0 1 ++ (resets ∷ sent (0 ∷ []) [] (says 1 0 0 0 []) ∷ own-read 0 ++ (filled-0 0 ++ (buffers-0 (replicate 512 9) ∷ own-read 9 ++ filled-0 9))))
 
 turns-same : SameFor 0 (allZeros 16912 8464 0 0) (allZeros 16912 0 0 0) (callsIn busy-turns) (callsIn quiet-turns)
-unfolding SeparationInTurns imageOf buffers-1 formats reads-0 resets buffers-0 format-track filled-0 busy-turns quiet-turns read-buffer own-read six config sent
+unfolding SeparationInTurns SeparationWhere imageOf buffers-1 formats reads-0 resets buffers-0 format-track filled-0 busy-turns quiet-turns read-buffer own-read six config sent
     says callsIn callOf callsOf concerns names usesBuffer inItsTurn fillsBuffer cleanAfter inTurns pick isWhole blockLength isCopy
 turns-same = separated-in-turns 0 (omega arith) (allZeros 16912 8464 0 0) (allZeros 16912 0 0 0) refl _ _ refl refl refl
 
@@ -149,9 +148,9 @@ alone-0 : List Line
 alone-0 = formats 0 1 ++ (own-read 0 ++ (resets ∷ resets ∷ own-read 0 ++ filled-0 0))
 
 changes-same : SameFor 0 (allZeros 16912 8464 0 0) (allZeros 16912 0 0 0) (callsIn (changing (resets ∷ []))) (callsIn alone-0)
-unfolding SeparationByResets imageOf formats saves-1 reads-0 resets format-track filled-0 changing alone-0 read-buffer own-read six config sent says callsIn callOf
+unfolding SeparationByResets SeparationWhere imageOf formats saves-1 reads-0 resets format-track filled-0 changing alone-0 read-buffer own-read six config sent says callsIn callOf
     callsOf concerns names mayStand allMayStand resetBetween pick isWhole blockLength isCopy
-changes-same = separated-by-resets 0 (omega arith) (allZeros 16912 8464 0 0) (allZeros 16912 0 0 0) refl _ _ refl refl refl refl
+changes-same = separated-by-resets 0 (omega arith) (allZeros 16912 8464 0 0) (allZeros 16912 0 0 0) refl _ _ refl refl refl
 
 no-change : resetBetween 0 true (callsIn (changing [])) ≡ false
 unfolding formats saves-1 reads-0 resets format-track filled-0 changing read-buffer own-read six config sent says callsIn callOf concerns names resetBetween pick

@@ -13,7 +13,7 @@ use Rattle.base.proofs.Bools.{both-true}
 use Rattle.base.proofs.Sames.{same-eq}
 use Rattle.model.specs.Feed.{Reply}
 use Rattle.model.specs.Claim.{System, Call, replyOf, replied, leftBy, called, engineReplies, begin}
-use Rattle.model.specs.Separation.{concerns, callsOf, allMayStand, Heard, heardOf, heard, SameFor, SeparationExcluding}
+use Rattle.model.specs.Separation.{concerns, callsOf, allMayStand, Heard, heardOf, heard, SameFor, SeparationWhere, SeparationExcluding}
 use Rattle.model.proofs.anchors.Session.{Line, told, allTold, lengthsOf, Answers}
 use Rattle.model.proofs.readers.Sessions.{allZeros, EngineAnswers, engine-answers, callOf, fed-back}
 
@@ -70,10 +70,10 @@ module _ (n₀ n₁ n₂ n₃ : ℕ) where
       → callsOf d (callsIn lines₁) ≡ callsOf d (callsIn lines₂) → allMayStand out (callsOf d (callsIn lines₁)) ≡ true
       → (k i : ℕ) → eqb (getD (getD (written d lines₁) k []) i 0) (getD (getD (written d lines₂) k []) i 0) ≡ false
       → SeparationExcluding out → ⊥
-  unfolding SeparationExcluding SameFor
+  unfolding SeparationExcluding SeparationWhere SameFor
   refuted out d lines₁ lines₂ h answers₁ answers₂ own may k i other separated =
       let zeros = allZeros n₀ n₁ n₂ n₃ in
-      let same = separated d h zeros zeros refl (callsIn lines₁) (callsIn lines₂) own may .0 in
+      let same = separated d h zeros zeros refl (callsIn lines₁) (callsIn lines₂) own may (ap (allMayStand out) (sym own) ∙ may) .0 in
       let wrote : written d lines₁ ≡ written d lines₂ = sym (heard-written d lines₁ answers₁) ∙ ap (map toldOf) same ∙ heard-written d lines₂ answers₂ in
       let byte : List (List ℕ) → ℕ = λ answers. getD (getD answers k []) i 0 in
       true≢false (sym (eq-eqb _ _ (ap byte wrote)) ∙ other)

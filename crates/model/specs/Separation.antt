@@ -71,17 +71,24 @@ pub record Own : Type 0 where
 unfoldable pub ownOf : (d : ℕ) → System → Own
 ownOf d s = record { entry = driveAt (s .controller) d; image = imageOf d (s .images) }
 
+-- From fresh controllers, by these lists with these first images: drive d hears the same, and has the same at the end.
 unfoldable pub SameFor : (d : ℕ) → (images₁ images₂ : List (List ℕ)) → (calls₁ calls₂ : List Call) → Type 0
 SameFor d images₁ images₂ calls₁ calls₂ =
     (heard d (begin images₁) calls₁ ≡ heard d (begin images₂) calls₂)
     × (ownOf d (engineAtEnd (begin images₁) calls₁) ≡ ownOf d (engineAtEnd (begin images₂) calls₂))
 
--- ---- The theorem, for every drive. Which blocks are out is a parameter, so that each exclusion can be shown to be needed.
-unfoldable pub SeparationExcluding : (out : List ℕ → Bool) → Type 0
-SeparationExcluding out =
+-- ---- The statement, for each of the four drives: so it is by any two lists that are fair to drive d (what is fair is a parameter), have the
+-- same calls that concern it, in the same order, and begin with the same image of it.
+unfoldable pub SeparationWhere : (fair : (d : ℕ) → List Call → Bool) → Type 0
+SeparationWhere fair =
     (d : ℕ) → d < 4 → (images₁ images₂ : List (List ℕ)) → imageOf d images₁ ≡ imageOf d images₂
-    → (calls₁ calls₂ : List Call) → callsOf d calls₁ ≡ callsOf d calls₂ → allMayStand out (callsOf d calls₁) ≡ true
+    → (calls₁ calls₂ : List Call) → callsOf d calls₁ ≡ callsOf d calls₂ → fair d calls₁ ≡ true → fair d calls₂ ≡ true
     → SameFor d images₁ images₂ calls₁ calls₂
 
+-- Fair is that no command that names the drive is out; what is out is a parameter again, so that each exclusion can be shown to be needed.
+unfoldable pub SeparationExcluding : (out : List ℕ → Bool) → Type 0
+SeparationExcluding out = SeparationWhere (λ d calls. allMayStand out (callsOf d calls))
+
+-- ---- The theorem.
 unfoldable pub Separation : Type 0
 Separation = SeparationExcluding excluded

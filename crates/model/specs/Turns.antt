@@ -1,8 +1,7 @@
 -- Request E6 for departments that take turns. Read Buffer and control bit 5 do no harm where the buffer holds nothing of other drives: from
 -- the start, a Reset, or a Write Buffer of the drive that is taken, until a command names other drives only. So with a Reset before each
 -- change of department nothing but Copy is excluded.
-use Prim.Native.Nat.{ℕ, _<_}
-use mathlib.Core.Path.{_≡_}
+use Prim.Native.Nat.{ℕ}
 use mathlib.Core.Bool.{Bool, true, not, _&&_, _||_}
 use mathlib.Core.List.{List, [], _∷_}
 use lib.ListN.{length}
@@ -10,9 +9,8 @@ use lib.Dec.{leb, ltb, eqb}
 use Rattle.base.specs.Pick.{pick}
 use Rattle.base.specs.Byte.{byte}
 use Rattle.model.specs.Block.{isCopy, isWhole}
-use Rattle.model.specs.Engine.{imageOf}
 use Rattle.model.specs.Claim.{Call, Reset, Command}
-use Rattle.model.specs.Separation.{names, callsOf, usesBuffer, allMayStand, SameFor}
+use Rattle.model.specs.Separation.{names, callsOf, usesBuffer, allMayStand, SeparationWhere}
 
 -- ---- The buffer is clean while it holds nothing of other drives. Reset zeroes it, and a Write Buffer of drive d that is taken fills it:
 -- opcode 0Fh, bit 7 of byte 1 not set, at least 512 bytes given. A command that names other drives only may leave theirs there; a
@@ -35,10 +33,7 @@ inTurns d clean (call ∷ calls) = inItsTurn d clean call && inTurns d (cleanAft
 
 -- A fresh controller's buffer is clean.
 unfoldable pub SeparationInTurns : Type 0
-SeparationInTurns =
-    (d : ℕ) → d < 4 → (images₁ images₂ : List (List ℕ)) → imageOf d images₁ ≡ imageOf d images₂
-    → (calls₁ calls₂ : List Call) → callsOf d calls₁ ≡ callsOf d calls₂ → inTurns d true calls₁ ≡ true → inTurns d true calls₂ ≡ true
-    → SameFor d images₁ images₂ calls₁ calls₂
+SeparationInTurns = SeparationWhere (λ d calls. inTurns d true calls)
 
 -- ---- A Reset before each change to drive d's department: drive d is alone as long as no command has named other drives only since the
 -- last Reset, or the start, and it is named only while it is alone.
@@ -50,8 +45,4 @@ resetBetween d alone (Command block given area ∷ calls) =
 
 -- Then nothing but Copy is excluded.
 unfoldable pub SeparationByResets : Type 0
-SeparationByResets =
-    (d : ℕ) → d < 4 → (images₁ images₂ : List (List ℕ)) → imageOf d images₁ ≡ imageOf d images₂
-    → (calls₁ calls₂ : List Call) → callsOf d calls₁ ≡ callsOf d calls₂ → allMayStand isCopy (callsOf d calls₁) ≡ true
-    → resetBetween d true calls₁ ≡ true → resetBetween d true calls₂ ≡ true
-    → SameFor d images₁ images₂ calls₁ calls₂
+SeparationByResets = SeparationWhere (λ d calls. allMayStand isCopy (callsOf d calls) && resetBetween d true calls)

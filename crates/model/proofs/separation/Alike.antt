@@ -2,12 +2,12 @@
 -- the same there.
 use Prim.Native.Nat.{ℕ, _<_}
 use mathlib.Core.Path.{_≡_, refl, sym, ap, _∙_}
-use mathlib.Core.Bool.{Bool, true, false}
-use mathlib.Core.Logic.{_⊎_, inl, inr}
+use mathlib.Core.Bool.{Bool, true, false, not, _||_}
 use mathlib.Core.List.{List}
 use native.Mathlib.Omega.{arith}
 use lib.ListN.{length}
 use Rattle.base.specs.Part.{splice}
+use Rattle.base.proofs.Bools.{not-true}
 use Rattle.model.specs.Block.{blockOf, isCopy, isWhole}
 use Rattle.model.specs.Record.{driveAt, Effect}
 use Rattle.model.specs.Engine.{Result, imageOf, obey, left, onDrive, loaded, fresh, resetOf}
@@ -15,9 +15,9 @@ use Rattle.model.specs.Claim.{System, Call, Reset, Command, replied, lef
 use Rattle.model.specs.Separation.{usesBuffer, heardOf, Own, ownOf}
 use Rattle.model.specs.Turns.{fillsBuffer}
 use Rattle.model.proofs.engine.Assembled.{drive-below, drives-length, own-entry, fresh-drive}
-use Rattle.model.proofs.engine.Blocks.{by-block, of-one-drive}
+use Rattle.model.proofs.engine.Blocks.{by-block}
 use Rattle.model.proofs.engine.CopyLeaves.{copy-leaves}
-use Rattle.model.proofs.records.Calls.{its-image}
+use Rattle.model.proofs.records.Calls.{one-drive, its-image}
 use Rattle.model.proofs.separation.Unbuffered.{SameBut, obey-unbuffered}
 use Rattle.model.proofs.separation.Filled.{obey-fills}
 use Rattle.model.proofs.separation.Apart.{same-own}
@@ -77,8 +77,8 @@ module _ (block given area : List ℕ) (whole : isWhole block ≡ true) (other :
   done s = obey (blockOf block) given (length area) (driveAt (s .controller) drive) (s .controller .buffer) (imageOf drive (s .images))
 
   left-one : (s : System) → leftBy s command ≡ left drive (done s) (s .controller) area (s .images)
-  unfolding leftBy onDrive
-  left-one s = of-one-drive (s .controller) block given area (s .images) whole other
+  unfolding leftBy
+  left-one s = one-drive (s .controller) block given area (s .images) whole other
 
   heard-one : (s : System) → heardOf (leftBy s command) ≡ record { answer = done s .ending .answer; area = splice 0 (done s .handed) area }
   unfolding heardOf left
@@ -104,29 +104,25 @@ module _ (block given area : List ℕ) (whole : isWhole block ≡ true) (other :
     unfolding ownOf
     same-image = ap (λ (o : Own). o .image) (alike .own)
 
-    -- what it leaves is the same
-    same-done : (clean ≡ true) ⊎ (usesBuffer block ≡ false) → SameBut (done s₁) (done s₂)
-    same-done (inl is) = rw (same-entry, same-image, alike .buffer is) (record { ending = refl; handed = refl; image = refl })
-    same-done (inr off) = rw (same-entry, same-image) (obey-unbuffered block given (length area) _ _ _ _ off)
+    -- what it leaves is the same, if it finds the buffer clean or does not use it
+    same-done : (c : Bool) → clean ≡ c → (c || not (usesBuffer block)) ≡ true → SameBut (done s₁) (done s₂)
+    same-done true is may = rw (same-entry, same-image, alike .buffer is) (record { ending = refl; handed = refl; image = refl })
+    same-done false is may = rw (same-entry, same-image) (obey-unbuffered block given (length area) _ _ _ _ (not-true (usesBuffer block) may))
 
-    same-buffer : clean ≡ true → done s₁ .buffer ≡ done s₂ .buffer
-    same-buffer is = rw (same-entry, same-image, alike .buffer is) refl
+    -- and the buffer too, if it was clean or is filled
+    same-after : (c : Bool) → clean ≡ c → (c || fillsBuffer block given) ≡ true → done s₁ .buffer ≡ done s₂ .buffer
+    same-after true is fills = rw (same-entry, same-image, alike .buffer is) refl
+    same-after false is fills = obey-fills block given (length area) _ _ _ fills ∙ sym (obey-fills block given (length area) _ _ _ fills)
 
-    -- and where it fills the buffer, that is the same too
-    same-after : (clean ≡ true) ⊎ (fillsBuffer block given ≡ true) → done s₁ .buffer ≡ done s₂ .buffer
-    same-after (inl is) = same-buffer is
-    same-after (inr fills) = obey-fills block given (length area) _ _ _ fills ∙ sym (obey-fills block given (length area) _ _ _ fills)
-
-    pub command-alike : (after : Bool) → (after ≡ true → (clean ≡ true) ⊎ (fillsBuffer block given ≡ true))
-        → (clean ≡ true) ⊎ (usesBuffer block ≡ false) → AlikeAfter drive after s₁ s₂ command
-    command-alike after why may =
-        let same = same-done may in
+    pub command-alike : (clean || not (usesBuffer block)) ≡ true → AlikeAfter drive (clean || fillsBuffer block given) s₁ s₂ command
+    command-alike may =
+        let same = same-done clean refl may in
         record {
           heard = heard-one s₁ ∙ rw (same .ending, same .handed) (sym (heard-one s₂));
           alike = record {
             four₁ = call-four s₁ command (alike .four₁);
             four₂ = call-four s₂ command (alike .four₂);
             own = own-one s₁ (alike .four₁) ∙ rw (same .ending, same .image) (sym (own-one s₂ (alike .four₂)));
-            buffer = λ is. buffer-one s₁ ∙ same-after (why is) ∙ sym (buffer-one s₂);
+            buffer = λ is. buffer-one s₁ ∙ same-after clean refl is ∙ sym (buffer-one s₂);
           };
         }

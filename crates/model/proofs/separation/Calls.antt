@@ -1,9 +1,8 @@
 -- The two lemmas, for every call: one that does not concern drive d leaves what drive d has; of one that does, what it replies and leaves
 -- there depends on that alone, and on the buffer where it uses it.
 use Prim.Native.Nat.{ℕ, _/_, _%_, _<_}
-use mathlib.Core.Path.{_≡_, refl, sym, ap, subst, _∙_}
-use mathlib.Core.Bool.{Bool, true, false, not, _&&_, _||_, true≢false, false≢true}
-use mathlib.Core.Logic.{_⊎_, inl, inr}
+use mathlib.Core.Path.{_≡_, sym, ap, subst, _∙_}
+use mathlib.Core.Bool.{Bool, true, false, not, _&&_, _||_, or-false, true≢false}
 use mathlib.Core.List.{List}
 use lib.Dec.{eqb}
 use borrow.Author.Tests.{eqb-true}
@@ -19,14 +18,6 @@ use Rattle.model.proofs.engine.Blocks.{not-whole}
 use Rattle.model.proofs.separation.Apart.{call-apart}
 use Rattle.model.proofs.separation.Alike.{call-four, Alike, AlikeAfter, reset-alike, command-alike}
 
-or-on : (a b : Bool) → (a || b) ≡ true → (a ≡ true) ⊎ (b ≡ true)
-or-on true b e = inl refl
-or-on false b e = inr e
-
-either : (a b : Bool) → (a || not b) ≡ true → (a ≡ true) ⊎ (b ≡ false)
-either true b e = inl refl
-either false b e = inr (not-true b e)
-
 -- ---- A command that names drive d and is no Copy: drive d is in its byte 1
 module _ (d : ℕ) (block : List ℕ) (on : names d block ≡ true) where
   named-whole : isWhole block ≡ true
@@ -35,26 +26,22 @@ module _ (d : ℕ) (block : List ℕ) (on : names d block ≡ true) where
 
   named-drive : isCopy block ≡ false → blockOf block .drive ≡ d
   unfolding names blockOf
-  named-drive other = eqb-true _ d (by (eqb (byte block 1 / 32 % 4) d) (isCopy block) _ other (both-true (isWhole block) _ on .1))
-    where
-      by : (a copy b : Bool) → copy ≡ false → (a || (copy && b)) ≡ true → a ≡ true
-      by true copy b e h = refl
-      by false true b e h = absurd (true≢false e)
-      by false false b e h = absurd (false≢true h)
+  named-drive other =
+      let first = rw other at (both-true (isWhole block) _ on .1) in
+      eqb-true _ d (sym (or-false (eqb (byte block 1 / 32 % 4) d)) ∙ first)
 
   named-turn : (clean : Bool) → (not (names d block) || (not (isCopy block) && (clean || not (usesBuffer block)))) ≡ true
-      → (isCopy block ≡ false) × ((clean ≡ true) ⊎ (usesBuffer block ≡ false))
+      → (isCopy block ≡ false) × ((clean || not (usesBuffer block)) ≡ true)
   named-turn clean fair =
       let both = both-true (not (isCopy block)) _ (rw on at fair) in
-      (not-true (isCopy block) (both .0), either clean (usesBuffer block) (both .1))
+      (not-true (isCopy block) (both .0), both .1)
 
-  named-alike : (given area : List ℕ) (clean : Bool) (s₁ s₂ : System) → isCopy block ≡ false → (clean ≡ true) ⊎ (usesBuffer block ≡ false)
+  named-alike : (given area : List ℕ) (clean : Bool) (s₁ s₂ : System) → isCopy block ≡ false → (clean || not (usesBuffer block)) ≡ true
       → Alike d clean s₁ s₂ → AlikeAfter d (clean || fillsBuffer block given) s₁ s₂ (Command block given area)
   named-alike given area clean s₁ s₂ other may alike =
       let at = named-drive other in
       subst (λ (d : ℕ). AlikeAfter d (clean || fillsBuffer block given) s₁ s₂ (Command block given area)) at
-      (command-alike block given area named-whole other clean s₁ s₂ (subst (λ (d : ℕ). Alike d clean s₁ s₂) (sym at) alike)
-      (clean || fillsBuffer block given) (or-on clean (fillsBuffer block given)) may)
+      (command-alike block given area named-whole other clean s₁ s₂ (subst (λ (d : ℕ). Alike d clean s₁ s₂) (sym at) alike) may)
 
 -- ---- For every call that concerns drive d: from systems that are alike it replies the same, and leaves them alike
 pub call-alike : (d : ℕ) → d < 4 → (clean : Bool) (s₁ s₂ : System) (call : Call) → concerns d call ≡ true → inItsTurn d clean call ≡ true

@@ -7,8 +7,8 @@ use mathlib.Core.List.{List, [], _∷_}
 use Rattle.base.proofs.Bools.{both-true}
 use Rattle.base.proofs.Decide.{pick-true, pick-false}
 use Rattle.model.specs.Claim.{System, Call, leftBy, called, engineAtEnd, begin}
-use Rattle.model.specs.Separation.{concerns, callsOf, heardOf, heard, ownOf, SameFor}
-use Rattle.model.specs.Turns.{cleanAfter, inItsTurn, inTurns, SeparationInTurns}
+use Rattle.model.specs.Separation.{concerns, callsOf, heardOf, heard, ownOf, SameFor, SeparationWhere}
+use Rattle.model.specs.Turns.{cleanAfter, inItsTurn, inTurns}
 use Rattle.model.proofs.separation.Alike.{Alike, begin-alike}
 use Rattle.model.proofs.separation.Calls.{apart-alike, call-alike}
 
@@ -53,12 +53,13 @@ unfolding heard callsOf engineAtEnd
 beside d h [] = λ clean s₁ s₂ fair alike. (refl, alike .own)
 beside d h (call ∷ calls) = one-beside d h call calls (beside d h calls)
 
--- ---- Two lists
-pub separated-in-turns : SeparationInTurns
-unfolding SeparationInTurns SameFor
-separated-in-turns d h images₁ images₂ same calls₁ calls₂ own fair₁ fair₂ =
-    let one = beside d h calls₁ true (begin images₁) (begin images₂) fair₁ (begin-alike d h images₁ images₂ same) in
-    let two = beside d h calls₂ true (begin images₂) (begin images₂) fair₂ (begin-alike d h images₂ images₂ refl) in (
+-- ---- Two lists: drives are apart wherever fair lists are in turns
+pub separated-where : (fair : (d : ℕ) → List Call → Bool) → ((d : ℕ) (calls : List Call) → fair d calls ≡ true → inTurns d true calls ≡ true)
+    → SeparationWhere fair
+unfolding SeparationWhere SameFor
+separated-where fair turns d h images₁ images₂ same calls₁ calls₂ own fair₁ fair₂ =
+    let one = beside d h calls₁ true (begin images₁) (begin images₂) (turns d calls₁ fair₁) (begin-alike d h images₁ images₂ same) in
+    let two = beside d h calls₂ true (begin images₂) (begin images₂) (turns d calls₂ fair₂) (begin-alike d h images₂ images₂ refl) in (
       one .0 ∙ ap (heard d (begin images₂)) own ∙ sym (two .0),
       one .1 ∙ ap (λ (calls : List Call). ownOf d (engineAtEnd (begin images₂) calls)) own ∙ sym (two .1),
     )

@@ -1,5 +1,5 @@
--- Where nothing is excluded, and where a Reset comes before each change of department, every command that names drive d is in its turn: the
--- request's theorem and its corollary.
+-- The theorems: in turns; where nothing is excluded; and with a Reset before each change of department, since in both every command that names
+-- drive d is in its turn.
 use Prim.Native.Nat.{ℕ}
 use mathlib.Core.Path.{_≡_, refl}
 use mathlib.Core.Bool.{Bool, true, false, not, _&&_, _||_, or-true, false≢true}
@@ -11,7 +11,11 @@ use Rattle.model.specs.Block.{isCopy, isWhole}
 use Rattle.model.specs.Claim.{Call, Reset, Command}
 use Rattle.model.specs.Separation.{names, concerns, callsOf, usesBuffer, excluded, mayStand, allMayStand, SeparationExcluding, Separation}
 use Rattle.model.specs.Turns.{fillsBuffer, cleanAfter, inItsTurn, inTurns, SeparationInTurns, resetBetween, SeparationByResets}
-use Rattle.model.proofs.separation.Separated.{separated-in-turns}
+use Rattle.model.proofs.separation.Separated.{separated-where}
+
+pub separated-in-turns : SeparationInTurns
+unfolding SeparationInTurns
+separated-in-turns = separated-where _ (λ d calls fair. fair)
 
 -- ---- The calls that concern drive d, one by one
 module _ (d : ℕ) (out : List ℕ → Bool) (call : Call) (calls : List Call) (all : allMayStand out (callsOf d (call ∷ calls)) ≡ true) where
@@ -52,9 +56,8 @@ none-turns d (call ∷ calls) clean all =
     rw (may-turn d call clean (first-may d excluded call calls all), none-turns d calls (cleanAfter d clean call) (rest-may d excluded call calls all)) refl
 
 pub separated : Separation
-unfolding Separation SeparationExcluding SeparationInTurns
-separated d h images₁ images₂ same calls₁ calls₂ own all =
-    separated-in-turns d h images₁ images₂ same calls₁ calls₂ own (none-turns d calls₁ true all) (none-turns d calls₂ true (rw own at all))
+unfolding Separation SeparationExcluding
+separated = separated-where _ (λ d calls all. none-turns d calls true all)
 
 -- ---- A Reset before each change of department: while drive d is alone the buffer is clean
 alone-turn : (named uses copy alone clean : Bool) → (alone ≡ true → clean ≡ true) → (alone || not named) ≡ true → (named ≡ true → not copy ≡ true)
@@ -91,7 +94,9 @@ resets-turns d (Command block given area ∷ calls) alone clean is resets all =
     command-turns d block given area calls (λ alone clean. resets-turns d calls alone clean) alone clean is resets all
 
 pub separated-by-resets : SeparationByResets
-unfolding SeparationByResets SeparationInTurns
-separated-by-resets d h images₁ images₂ same calls₁ calls₂ own all resets₁ resets₂ =
-    separated-in-turns d h images₁ images₂ same calls₁ calls₂ own (resets-turns d calls₁ true true (λ e. e) resets₁ all)
-    (resets-turns d calls₂ true true (λ e. e) resets₂ (rw own at all))
+unfolding SeparationByResets
+separated-by-resets =
+    separated-where _
+    (λ d calls fair.
+    let both = both-true (allMayStand isCopy (callsOf d calls)) _ fair in
+    resets-turns d calls true true (λ e. e) (both .1) (both .0))
