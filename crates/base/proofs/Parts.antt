@@ -1,5 +1,5 @@
 -- Laws of parts, of a list with a part replaced, and of rows of one width.
-use mathlib.Core.Path.{_≡_, refl, sym, ap, _∙_}
+use mathlib.Core.Path.{_≡_, refl, sym, ap, ap₂, _∙_}
 use mathlib.Core.Logic.{_⊎_, inl, inr}
 use mathlib.Core.List.{List, [], _∷_, _++_, append-nil, append-assoc}
 use Prim.Native.Nat.{ℕ, zero, suc, _+_, _-_, _*_, _≤_, _<_}
@@ -146,10 +146,15 @@ getD-any (x ∷ xs) zero d e h = refl
 getD-any (x ∷ xs) (suc i) d e h = getD-any xs i d e (le-of-suc-le-suc h)
 
 -- ---- rows of one width
-pub length-rows : (row : ℕ → List ℕ) (w n : ℕ) → ((i : ℕ) → length (row i) ≡ w) → length (rows row n) ≡ n * w
+pub length-rows : (row : ℕ → List ℕ) (w n : ℕ) → ((i : ℕ) → i < n → length (row i) ≡ w) → length (rows row n) ≡ n * w
 unfolding rows
 length-rows row w zero h = sym (zero-mul w)
-length-rows row w (suc n) h = length-append (rows row n) (row n) ∙ omega (arith, h n, length-rows row w n h)
+length-rows row w (suc n) h = length-append (rows row n) (row n) ∙ omega (arith, h n (omega arith), length-rows row w n (λ i l. h i (omega arith)))
+
+pub rows-same : (x y : ℕ → List ℕ) (n : ℕ) → ((i : ℕ) → i < n → x i ≡ y i) → rows x n ≡ rows y n
+unfolding rows
+rows-same x y zero h = refl
+rows-same x y (suc n) h = ap₂ {C = List ℕ} (λ a b. a ++ b) (rows-same x y n (λ i l. h i (omega arith))) (h n (omega arith))
 
 -- a part that lies within row i
 pub part-row : (row : ℕ → List ℕ) (w n i b size : ℕ) → ((j : ℕ) → length (row j) ≡ w) → i < n → b + size ≤ w
@@ -159,9 +164,9 @@ part-row row w zero i b size h l k = absurd (omega arith)
 part-row row w (suc n) i b size h l k = by (eq-or-lt-of-le (le-of-suc-le-suc l)) (λ l′. part-row row w n i b size h l′ k)
   where
     by : (i ≡ n) ⊎ (i < n) → (i < n → part (i * w + b) size (rows row n) ≡ part b size (row i)) → part (i * w + b) size (rows row n ++ row n) ≡ part b size (row i)
-    by (inl e) ih = rw e (part-right b size (n * w) (rows row n) (row n) (length-rows row w n h))
+    by (inl e) ih = rw e (part-right b size (n * w) (rows row n) (row n) (length-rows row w n (λ j m. h j)))
     by (inr l′) ih =
-        part-left (i * w + b) size (rows row n) (row n) (omega (arith, length-rows row w n h, cell-in w i n l′))
+        part-left (i * w + b) size (rows row n) (row n) (omega (arith, length-rows row w n (λ j m. h j), cell-in w i n l′))
         ∙ ih l′
 
 -- the front of row i

@@ -3,7 +3,7 @@ use crate::logic::both;
 ghost use mathlib.Core.Path.{_≡_};
 ghost use Prim.Native.Nat.{_+_, _*_, _≤_};
 ghost use lib.ListN.{length, replicate};
-ghost use Rattle.base.specs.Part.{splice};
+ghost use Rattle.base.specs.Part.{part, splice};
 ghost use Rattle.base.specs.Same.{sameBytes, oneByte};
 
 // All of src into dst, which is as long, byte after byte.
@@ -32,6 +32,18 @@ pub fn move_bytes(dst: &mut [u8], src: &[u8])
     let mut room = [0u8; 512];
     copy_bytes(&mut room[0..n], src);
     copy_bytes(dst, &room[0..n]);
+}
+
+// The same within one slice, for a sector's data: again one memmove.
+pub fn copy_within(bytes: &mut [u8], from: usize, to: usize, size: usize)
+    requires { ⌜ (from + size ≤ length (now bytes)) × (to + size ≤ length (now bytes)) × (size ≤ 512) ⌝ }
+    ensures { λ _. ⌜ now (bytes .exit) ≡ splice to (part from size (now (bytes .entry))) (now (bytes .entry)) ⌝ }
+{
+    let mut room = [0u8; 512];
+    let end = from + size;
+    copy_bytes(&mut room[0..size], &bytes[from..end]);
+    let past = to + size;
+    copy_bytes(&mut bytes[to..past], &room[0..size]);
 }
 
 // Every byte becomes this one: LLVM makes a memset of it.

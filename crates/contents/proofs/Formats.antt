@@ -28,8 +28,9 @@ use Rattle.track.proofs.Laws.{id-back, track-room, taken-in, state-taken, taken
 use Rattle.formatter.specs.Format.{formatted, soundFrom}
 use Rattle.formatter.proofs.Laws.{formatted-most, formatted-least, formatted-front}
 use Rattle.contents.specs.Content.{contentOf}
-use Rattle.contents.proofs.Terms.{ForTracks, NotTaken, trackMade, pairMade, driveMade}
+use Rattle.contents.proofs.Terms.{ForTracks, NotTaken, FreeFor, trackMade, pairMade, driveMade}
 use Rattle.contents.proofs.Elsewhere.{Keeps, first-same, content-kept}
+use Rattle.contents.proofs.Pair.{free-state, free-written, pair-elsewhere}
 
 -- the front of a stretch that was replaced
 front-of : (at size : ℕ) (ys xs : List ℕ) → size ≤ length ys → at + length ys ≤ length xs → part (at + 0) size (splice at ys xs) ≡ part 0 size ys
@@ -113,26 +114,6 @@ module _ (p : Params) (map fill image : List ℕ) (f : Fits p image) (m : ForTra
         content-kept p (allBut t) image _ (made-keeps t ht Bad free bad-taken) (f .within) a ha (kept-but t _ out)
 
 -- ---- two tracks made
--- every track but A and B
-unfoldable allButTwo : (A B : Track) → Track → Bool
-allButTwo A B v = allBut A v && allBut B v
-
-two-kept : (A B v : Track) → allButTwo A B v ≡ true → (allBut A v ≡ true) × (allBut B v ≡ true)
-unfolding allButTwo
-two-kept A B v k = both-true _ _ k
-
-kept-two : (A B v : Track) → (v .0 ≡ A .0 → ⊥) → (v .0 ≡ B .0 → ⊥) → allButTwo A B v ≡ true
-unfolding allButTwo
-kept-two A B v a b = rw (kept-but A v a, kept-but B v b)
-
-two-changed : (A B v : Track) → allButTwo A B v ≡ false → (v ≡ A) ⊎ (v ≡ B)
-unfolding allButTwo
-two-changed A B v k = by (allBut A v) refl k
-  where
-    by : (x : Bool) → allBut A v ≡ x → (x && allBut B v) ≡ false → (v ≡ A) ⊎ (v ≡ B)
-    by true e z = inr (but-changed B v z)
-    by false e z = inl (but-changed A v e)
-
 module _ (p : Params) (map plain fill image : List ℕ) (f : Fits p image) (mp : ForTracks p map plain) (mf : ForTracks p map fill)
     (A B : Track) (ha : A .0 < trackCount p) (hb : B .0 < trackCount p) (ne : B .0 ≡ A .0 → ⊥) where
   abbrev half : List ℕ
@@ -147,30 +128,15 @@ module _ (p : Params) (map plain fill image : List ℕ) (f : Fits p image) (mp :
       first-same p A _ half (made-other p map fill half half-fits mf B hb (Taken A) A (λ e. ne (sym e)))
       ∙ made-first p map plain image f mp A ha (Moved B)
 
-  pair-keeps : NotTaken p A image → NotTaken p B image → Keeps p (allButTwo A B) image (pairMade p A B map plain fill image)
-  pair-keeps freeA freeB = record {
-    same = λ u hu k.
-        let both = two-kept A B u k in
-        made-other p map fill half half-fits mf B hb (Taken A) u (but-kept B u (both .1))
-        ∙ made-other p map plain image f mp A ha (Moved B) u (but-kept A u (both .0));
-    none-before = λ v u kv ku e. before v u e (two-changed A B u ku);
-    none-after = λ v u kv ku e. after v u kv e (two-changed A B u ku);
-  }
-    where
-      before : (v u : Track) → takenBy p v u (firstId p u image) ≡ true → (u ≡ A) ⊎ (u ≡ B) → ⊥
-      before v u e (inl z) = freeA v (state-taken p v A image (rw z at e))
-      before v u e (inr z) = freeB v (state-taken p v B image (rw z at e))
-
-      after : (v u : Track) → allButTwo A B v ≡ true → takenBy p v u (firstId p u (pairMade p A B map plain fill image)) ≡ true → (u ≡ A) ⊎ (u ≡ B) → ⊥
-      after v u kv e (inl z) = moved-taken B v (taken-made p A (Moved B) (getD map 0 0) _ moved-first v (rw z at e))
-      after v u kv e (inr z) =
-          but-kept A v (two-kept A B v kv .0) (sym (taken-one A v (made-taken p map fill half half-fits mf B hb (Taken A) v (rw z at e))))
-
   -- ---- Assign Alternate: every address outside both
-  pub assign-elsewhere : NotTaken p A image → NotTaken p B image → (a : Lba) → OnDrive p a → (trackOf p a .0 ≡ A .0 → ⊥) → (trackOf p a .0 ≡ B .0 → ⊥)
-      → contentOf p a (pairMade p A B map plain fill image) ≡ contentOf p a image
-  assign-elsewhere freeA freeB a on outA outB =
-      content-kept p (allButTwo A B) image _ (pair-keeps freeA freeB) (f .within) a on (kept-two A B _ outA outB)
+  pub assign-elsewhere : NotTaken p A image → FreeFor p A B image → (a : Lba) → OnDrive p a
+      → (trackOf p a .0 ≡ A .0 → ⊥) → (trackOf p a .0 ≡ B .0 → ⊥) → contentOf p a (pairMade p A B map plain fill image) ≡ contentOf p a image
+  assign-elsewhere freeA freeB =
+      pair-elsewhere p A B image _ (f .within)
+      (λ u hu outA outB. made-other p map fill half half-fits mf B hb (Taken A) u outB ∙ made-other p map plain image f mp A ha (Moved B) u outA)
+      (free-state p A A image (λ u e. absurd (freeA u e))) (free-state p A B image freeB)
+      (free-written p A A (Moved B) _ _ moved-first (λ u e. absurd (moved-taken B u e)))
+      (free-written p A B (Taken A) _ _ (made-first p map fill half half-fits mf B hb (Taken A)) (λ u e. sym (taken-one A u e)))
 
 -- ---- all tracks from s on made
 -- every track before s

@@ -18,8 +18,8 @@ use Rattle.track.specs.Pair.{pairSplit}
 use Rattle.sectors.specs.Transfer.{Transfer, begun, writeSlot, found, reading, writing}
 use Rattle.contents.specs.Content.{Bytes, Missing, contentOf, put}
 -- the laws' words
-pub use Rattle.contents.proofs.Terms.{dataStart, Stands, stands, Given, ForTracks, NotTaken, trackMade, pairMade, driveMade}
-unfoldable pub use Rattle.contents.proofs.Terms.{readBytes, bytesAt, putAll}
+pub use Rattle.contents.proofs.Terms.{dataStart, Stands, stands, Given, ForTracks, NotTaken, FreeFor, trackMade, pairMade, driveMade}
+unfoldable pub use Rattle.contents.proofs.Terms.{bytesAt, putAll}
 use Rattle.sectors.proofs.Laws as Sectors
 use Rattle.contents.proofs.Puts
 use Rattle.contents.proofs.Readings
@@ -145,9 +145,9 @@ module _ (p : Params) (image : List ℕ) (f : Fits p image) (a : Lba) (ha : OnDr
       → trackOf p a .0 < s .0 → contentOf p a (driveMade p s map fill label image) ≡ contentOf p a image
   format-drive-elsewhere s hs whole label sixteen l = Formats.format-drive-elsewhere p map fill label image f m sixteen s hs whole a ha l
 
-  -- A moved to B, B taken by A
+  -- A moved to B, B taken by A; before it B may be taken by A too
   pub assign-elsewhere : (plain : List ℕ) → ForTracks p map plain → (A B : Track) → A .0 < trackCount p → B .0 < trackCount p → (B .0 ≡ A .0 → ⊥)
-      → NotTaken p A image → NotTaken p B image → (trackOf p a .0 ≡ A .0 → ⊥) → (trackOf p a .0 ≡ B .0 → ⊥)
+      → NotTaken p A image → FreeFor p A B image → (trackOf p a .0 ≡ A .0 → ⊥) → (trackOf p a .0 ≡ B .0 → ⊥)
       → contentOf p a (pairMade p A B map plain fill image) ≡ contentOf p a image
   assign-elsewhere plain mp A B hA hB ne freeA freeB outA outB =
       Formats.assign-elsewhere p map plain fill image f mp m A B hA hB ne freeA freeB a ha outA outB

@@ -7,6 +7,7 @@ pub mod Writings
 pub mod Alikes
 pub mod Swaps
 pub mod Elsewhere
+pub mod Pair
 pub mod Formats
 pub mod Fills
 pub mod Laws

@@ -13,8 +13,8 @@ use Rattle.track.specs.Image.{trackBytes, slotData}
 use Rattle.track.specs.declared.find.Sector.the-variants.{Slot}
 use Rattle.sectors.specs.Transfer.{Transfer, begun, ended, readSlot, found, reading}
 use Rattle.sectors.proofs.Laws.{onward-has}
-use Rattle.contents.specs.Content.{Missing, contentIn, contentOf}
-use Rattle.contents.proofs.Terms.{Stands, stands, readBytes, bytesAt}
+use Rattle.contents.specs.Content.{readBytes, Missing, contentIn, contentOf}
+use Rattle.contents.proofs.Terms.{Stands, stands, bytesAt}
 use Rattle.contents.proofs.Places.{content-fault}
 
 first-of : (a : Lba) → further a 0 ≡ a

@@ -15,7 +15,7 @@ use Rattle.track.specs.declared.find.Sector.the-variants.{Slot}
 use Rattle.track.specs.Pair.{stateOf}
 use Rattle.formatter.specs.Format.{formatted, soundFrom}
 use Rattle.sectors.specs.Transfer.{found}
-use Rattle.contents.specs.Content.{Content, Bytes, Missing, contentOf, put}
+use Rattle.contents.specs.Content.{readBytes, contentOf, put}
 
 -- where in the image the data of slot k of track t begin
 abbrev pub dataStart : Params → Track → (k : ℕ) → ℕ
@@ -27,10 +27,6 @@ pub data Stands (p : Params) (a : Lba) (image : List ℕ) : Type 0 where
 
 -- ---- from one address on
 -- the bytes read at n addresses, one behind the other
-unfoldable pub readBytes : Content → List ℕ
-readBytes (Bytes sector) = sector
-readBytes (Missing code) = []
-
 unfoldable pub bytesAt : Params → (n : ℕ) → Lba → (image : List ℕ) → List ℕ
 bytesAt p zero a image = []
 bytesAt p (suc n) a image = readBytes (contentOf p a image) ++ bytesAt p n (next a) image
@@ -54,6 +50,10 @@ pub record ForTracks (p : Params) (map fill : List ℕ) : Type 0 where
 -- its slot 0 does not say that it is taken
 abbrev pub NotTaken : Params → Track → (image : List ℕ) → Type 0
 NotTaken p t image = (u : Track) → stateOf p t image ≡ Taken u → ⊥
+
+-- or by A alone: then it is free for A (request E7)
+abbrev pub FreeFor : Params → (A t : Track) → (image : List ℕ) → Type 0
+FreeFor p A t image = (u : Track) → stateOf p t image ≡ Taken u → u .0 ≡ A .0
 
 -- Format Track, Format Bad Track: track t becomes sound or bad.
 abbrev pub trackMade : Params → Track → State → (map fill image : List ℕ) → List ℕ

@@ -10,8 +10,8 @@ use Rattle.geometry.specs.declared.params.Lba.{Lba}
 use Rattle.geometry.specs.Params.{addressCount, further, next}
 use Rattle.geometry.proofs.Addresses.{same-lba, further-next}
 use Rattle.track.specs.Image.{Fits}
-use Rattle.contents.specs.Content.{Bytes, contentIn, contentOf}
-use Rattle.contents.proofs.Laws.{Stands, stands, readBytes, bytesAt, content-length}
+use Rattle.contents.specs.Content.{readBytes, Bytes, contentIn, contentOf}
+use Rattle.contents.proofs.Laws.{Stands, stands, bytesAt, content-length}
 
 first-of : (s : Lba) → further s 0 ≡ s
 first-of s = same-lba (further s 0) s (add-zero (s .0))

@@ -26,7 +26,7 @@ module _ (id : Id) (map fill : List ℕ) where
 
   pub length-slots : length (slotsMade id map fill) ≡ length map * (8 + length fill)
   unfolding slotsMade
-  length-slots = length-rows (slotMade id map fill) (8 + length fill) (length map) length-slot
+  length-slots = length-rows (slotMade id map fill) (8 + length fill) (length map) (λ k l. length-slot k)
 
   pub slot-id : (k : ℕ) → part 0 8 (slotMade id map fill k) ≡ idBytes (withSector id (getD map k 0))
   unfolding slotMade part

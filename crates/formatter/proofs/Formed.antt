@@ -30,7 +30,7 @@ use Rattle.track.specs.Image.{trackBytes, slotId, slotData, firstId}
 use Rattle.track.specs.declared.find.Sector.the-variants.{Slot, Fault}
 use Rattle.track.specs.Find.{takenBy, whereBy, whereOf, holds, slotUsed, sectorIn, sectorFrom, sectorFound}
 use Rattle.track.specs.Pair.{stateBy, stateOf}
-use Rattle.track.proofs.Laws.{id-back, own-for, sector-for, used-holds, unused}
+use Rattle.track.proofs.Laws.{id-back, sector-for, state-written, sound-written, bad-written, taken-written, moved-written, holds-written, used-holds, unused}
 use Rattle.formatter.specs.Format.{formatted}
 use Rattle.formatter.specs.Check.{idIs, idsAre, homeState, checkedOn, checkCode}
 use Rattle.formatter.proofs.Formats.{id-formatted, data-formatted}
@@ -58,76 +58,28 @@ unfolding firstId
 first-formed p t state f image h form = ap idIn (form .ids 0 h) ∙ id-back (idFor p t state (sectorAt (p .sectors) f 0))
 
 -- the state that the format commands see is the state formatted
-state-seen : (p : Params) (t : Track) (state : State) (s : ℕ) → stateBy (idFor p t state s) true ≡ state
-unfolding stateBy idFor flagOf partnerOf pick
-state-seen p t Sound s = refl
-state-seen p t Bad s = refl
-state-seen p t (Moved u) s = refl
-state-seen p t (Taken u) s = refl
-
 pub state-formed : (p : Params) (t : Track) (state : State) (f : ℕ) (image : List ℕ) → 0 < p .sectors → Formed p t state f image → stateOf p t image ≡ state
-unfolding stateOf
-state-formed p t state f image h form = rw (first-formed p t state f image h form, own-for p t state (sectorAt (p .sectors) f 0)) (state-seen p t state (sectorAt (p .sectors) f 0))
+state-formed p t state f image h form = state-written p t state _ image (first-formed p t state f image h form)
 
 -- ---- where the search goes on
-module _ (p : Params) (t : Track) (s : ℕ) (taken : Bool) where
-  by-sound : whereBy t (idFor p t Sound s) true taken ≡ On t
-  unfolding whereBy idFor flagOf pick
-  by-sound = refl
-
-  by-bad : whereBy t (idFor p t Bad s) true taken ≡ Off 0x19
-  unfolding whereBy idFor flagOf pick
-  by-bad = refl
-
-  by-taken : (u : Track) → whereBy t (idFor p t (Taken u) s) true taken ≡ Off 0x1C
-  unfolding whereBy idFor flagOf pick
-  by-taken u = refl
-
-  by-moved : (u : Track) → taken ≡ true → whereBy t (idFor p t (Moved u) s) true taken ≡ On u
-  unfolding whereBy idFor flagOf partnerOf pick
-  by-moved u e = rw e
-
-taken-for : (p : Params) (t u : Track) (s : ℕ) → u .0 < trackCount p → takenBy p t u (idFor p u (Taken t) s) ≡ true
-unfolding takenBy idFor flagOf partnerOf
-taken-for p t u s h = rw (lt-ltb (u .0) (trackCount p) h, own-for p u (Taken t) s, eq-eqb (t .0) (t .0) refl)
-
-partner-taken : (p : Params) (t u : Track) (s : ℕ) (ids : Track → Id) → takenBy p t u (ids u) ≡ true
-    → takenBy p t (idFor p t (Moved u) s .partner) (ids (idFor p t (Moved u) s .partner)) ≡ true
-unfolding idFor partnerOf
-partner-taken p t u s ids e = e
-
 module _ (p : Params) (t : Track) (f : ℕ) (image : List ℕ) (some-sector : 0 < p .sectors) where
   pub where-sound : Formed p t Sound f image → whereOf p t image ≡ On t
-  unfolding whereOf
-  where-sound form =
-      rw (first-formed p t Sound f image some-sector form, own-for p t Sound (sectorAt (p .sectors) f 0)) (by-sound p t (sectorAt (p .sectors) f 0) _)
+  where-sound form = sound-written p t _ image (first-formed p t Sound f image some-sector form)
 
   pub where-bad : Formed p t Bad f image → whereOf p t image ≡ Off 0x19
-  unfolding whereOf
-  where-bad form =
-      rw (first-formed p t Bad f image some-sector form, own-for p t Bad (sectorAt (p .sectors) f 0)) (by-bad p t (sectorAt (p .sectors) f 0) _)
+  where-bad form = bad-written p t _ image (first-formed p t Bad f image some-sector form)
 
   pub where-taken : (u : Track) → Formed p t (Taken u) f image → whereOf p t image ≡ Off 0x1C
-  unfolding whereOf
-  where-taken u form =
-      rw (first-formed p t (Taken u) f image some-sector form, own-for p t (Taken u) (sectorAt (p .sectors) f 0)) (by-taken p t (sectorAt (p .sectors) f 0) _ u)
+  where-taken u form = taken-written p t _ image u (first-formed p t (Taken u) f image some-sector form)
 
   pub where-moved : (u : Track) (g : ℕ) → u .0 < trackCount p → Formed p t (Moved u) f image → Formed p u (Taken t) g image → whereOf p t image ≡ On u
-  unfolding whereOf
   where-moved u g hu form form′ =
-      rw (first-formed p t (Moved u) f image some-sector form, own-for p t (Moved u) (sectorAt (p .sectors) f 0))
-      (by-moved p t (sectorAt (p .sectors) f 0) _ u (partner-taken p t u (sectorAt (p .sectors) f 0) (λ v. firstId p v image)
-      (ap (takenBy p t u) (first-formed p u (Taken t) g image some-sector form′) ∙ taken-for p t u (sectorAt (p .sectors) g 0) hu)))
+      moved-written p t _ image u _ hu (first-formed p t (Moved u) f image some-sector form) (first-formed p u (Taken t) g image some-sector form′)
 
 -- ---- the slot that is used for a sector: its own in the layout
-its-sector : (p : Params) (t : Track) (state : State) (x s : ℕ) → (eqb (idFor p t state x .mark) 0xA1 && eqb (idFor p t state x .sector) s) ≡ eqb x s
-unfolding idFor
-its-sector p t state x s = refl
-
 holds-formed : (p : Params) (t : Track) (state : State) (f s : ℕ) (image : List ℕ) (k : ℕ) → Formed p t state f image → k < p .sectors
     → holds p s (trackBytes p t image) k ≡ eqb (sectorAt (p .sectors) f k) s
-unfolding holds
-holds-formed p t state f s image k form h = rw (form .ids k h, id-back (idFor p t state (sectorAt (p .sectors) f k))) (its-sector p t state (sectorAt (p .sectors) f k) s)
+holds-formed p t state f s image k form h = holds-written p t state _ s (trackBytes p t image) k (form .ids k h)
 
 module _ (p : Params) (t : Track) (state : State) (f s : ℕ) (image : List ℕ) (form : Formed p t state f image) (hs : s < p .sectors) where
   -- a slot that holds s is its slot in the layout

@@ -17,8 +17,8 @@ use Rattle.sectors.specs.declared.transfer.Done.{Done}
 use Rattle.sectors.specs.Transfer.{begun, reading}
 use Rattle.sectors.specs.Promises.{HasRead}
 use Rattle.sectors.proofs.Laws.{Handed, reading-handed, front-lent}
-use Rattle.contents.specs.Content.{Content, Bytes, Missing, contentOf}
-use Rattle.contents.proofs.Laws.{readBytes, bytesAt, reading-contents, reading-stop}
+use Rattle.contents.specs.Content.{readBytes, Content, Bytes, Missing, contentOf}
+use Rattle.contents.proofs.Laws.{bytesAt, reading-contents, reading-stop}
 use Rattle.copying.specs.declared.route.Route.{Route}
 use Rattle.copying.specs.declared.route.Copied.{Copied}
 use Rattle.copying.specs.Images.{imageOf}

@@ -9,6 +9,7 @@ use lib.ListN.{length, take, drop}
 use borrow.Rule.Slice.PartMut.{putMid}
 use Rattle.base.specs.Part.{part, splice}
 use Rattle.base.proofs.Parts.{length-part, length-splice, part-same, part-before, part-after, part-part, other-cell, cell-in, part-lent, splice-lent}
+use Rattle.base.proofs.Splices.{splice-part}
 use Rattle.geometry.specs.declared.params.Params.{Params}
 use Rattle.geometry.specs.declared.params.Track.{Track}
 use Rattle.geometry.specs.Params.{trackCount, slotSize, trackSize, imageLength, trackStart}
@@ -23,6 +24,11 @@ module _ (p : Params) where
     pub length-track : (t : Track) → t .0 < trackCount p → length (trackBytes p t image) ≡ trackSize p
     unfolding trackBytes
     length-track t h = length-part (trackStart p t) (trackSize p) image (track-room t (length image) h fits)
+
+    -- put back where it was
+    pub track-back : (t : Track) → t .0 < trackCount p → withTrack p t (trackBytes p t image) image ≡ image
+    unfolding withTrack trackBytes
+    track-back t h = splice-part (trackStart p t) (trackSize p) image (track-room t (length image) h fits)
 
     module _ (t : Track) (bytes : List ℕ) (h : t .0 < trackCount p) (l : length bytes ≡ trackSize p) where
       pub length-with-track : length (withTrack p t bytes image) ≡ length image

@@ -2,6 +2,8 @@ pub mod Ids
 pub mod Images
 pub mod Takens
 pub mod Finds
+pub mod Homes
+pub mod Written
 pub mod Used
 pub mod Seeks
 pub mod Located

@@ -14,7 +14,7 @@ ghost use Rattle.track.specs.Search.{noteOf, noted, Noted};
 pub const NO_SLOT: u8 = 0xFF;
 
 // Notes slot k under its sector, unless one is noted there.
-fn note(slots: &mut [u8], slot: &[u8], k: u8)
+pub fn note(slots: &mut [u8], slot: &[u8], k: u8)
     requires { ⌜ (length (now slots) ≡ 32) × (8 ≤ length (now slot)) ⌝ }
     ensures { λ _. ⌜ now (slots .exit) ≡ noted (idIn (now (slot .entry))) k (now (slots .entry)) ⌝ }
 {

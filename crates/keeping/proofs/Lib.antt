@@ -1,0 +1,13 @@
+pub mod Order
+pub mod Reading
+pub mod Writes
+pub mod Copying
+pub mod Apart
+pub mod Before
+pub mod Leaving
+pub mod After
+pub mod Phases
+pub mod Outside
+pub mod Kept
+pub mod Again
+pub mod Power

@@ -1,0 +1,94 @@
+-- An interrupted move: either A's slot 0 is not written yet, or B is whole and A's slot 0 says so.
+use mathlib.Core.Path.{_≡_, sym, ap, _∙_}
+use mathlib.Core.Logic.{_⊎_, inl, inr}
+use mathlib.Core.List.{List}
+use Prim.Native.Nat.{ℕ, suc, _+_, _-_, _*_, _<_}
+use native.Mathlib.Omega.{arith}
+use native.Mathlib.Decide.{decLt}
+use lib.ListN.{length}
+use Rattle.geometry.specs.declared.params.Params.{Params}
+use Rattle.geometry.specs.declared.params.Track.{Track}
+use Rattle.track.specs.Image.{Fits}
+use Rattle.keeping.specs.Keep.{Write, Id, Body, made, copyBody, sectorsOf, writeOf, afterWrites, Mapped, Keepable}
+use Rattle.keeping.specs.Power.{Cut, unbegun, finished, torn, Interrupted}
+use Rattle.keeping.proofs.Order.{halves, write-id, write-body, write-leave, writes-more, leave-more}
+use Rattle.keeping.proofs.Copying.{body-length, Unmoved, unmoved-body, copied}
+use Rattle.keeping.proofs.Leaving.{Left, left}
+
+id-body : (t u : Track) (k j : ℕ) (x y : List ℕ) → Id t k x ≡ Body u j y → ⊥
+id-body t u k j x y e = let z : _≡_ {A = ℕ} 0 1 = cc in omega arith
+
+body-track : (t u : Track) (k j : ℕ) (x y : List ℕ) → Body t k x ≡ Body u j y → t ≡ u
+body-track t u k j x y e = cc
+
+body-slot : (t u : Track) (k j : ℕ) (x y : List ℕ) → Body t k x ≡ Body u j y → k ≡ j
+body-slot t u k j x y e = cc
+
+body-bytes : (t u : Track) (k j : ℕ) (x y : List ℕ) → Body t k x ≡ Body u j y → x ≡ y
+body-bytes t u k j x y e = cc
+
+module _ (p : Params) (from to : Track) (map image : List ℕ) (fits : Fits p image) (maps : Mapped (p .sectors) map) (may : Keepable p from to image) where
+  -- data under way in B's slot
+  torn-copy : (now after : List ℕ) (i k : ℕ) → k < p .sectors → (i ≡ k * 2) ⊎ (i ≡ k * 2 + 1) → Unmoved p from to map image now
+      → (t : Track) (j : ℕ) (bytes any : List ℕ) → writeOf p from to map image i ≡ Body t j bytes → length any ≡ length bytes → after ≡ made p (Body t j any) now → Unmoved p from to map image after
+  torn-copy now after i k h (inl e) u t j bytes any w l z = absurd (id-body _ _ _ _ _ _ (sym (ap (writeOf p from to map image) e ∙ write-id p from to map image k h) ∙ w))
+  torn-copy now after i k h (inr e) u t j bytes any w l z =
+      let same : copyBody to map (sectorsOf p from image) k ≡ Body t j bytes = sym (ap (writeOf p from to map image) e ∙ write-body p from to map image k h) ∙ w in
+      let long : length any ≡ p .size = l ∙ ap length (sym (body-bytes _ _ _ _ _ _ same)) ∙ body-length p from to map image fits maps may k h in
+      rw (z, ← body-track _ _ _ _ _ _ same, ← body-slot _ _ _ _ _ _ same) (unmoved-body p from to map image fits maps may now u k h any long)
+
+  -- a write of B's is cut short
+  pub cut-copy : (after : List ℕ) (i : ℕ) → i < p .sectors * 2 → Cut p (writeOf p from to map image i) (afterWrites p from to map image i) after → Unmoved p from to map image after
+  cut-copy after i h (unbegun e) = rw e (copied p from to map image fits maps may i (omega arith) .0)
+  cut-copy after i h (finished e) = rw (e ∙ sym (writes-more p from to map image i)) (copied p from to map image fits maps may (suc i) (omega arith) .0)
+  cut-copy after i h (torn t j bytes any w l z) =
+      let k = halves i in
+      torn-copy (afterWrites p from to map image i) after i (k .0) (below (k .0) (k .1)) (k .1) (copied p from to map image fits maps may i (omega arith) .0) t j bytes any w l z
+    where
+      below : (k : ℕ) → (i ≡ k * 2) ⊎ (i ≡ k * 2 + 1) → k < p .sectors
+      below k (inl e) = omega arith
+      below k (inr e) = omega arith
+
+  -- a write of A's is: an ID is old or new as a whole
+  cut-leave : (after : List ℕ) (j : ℕ) → j < p .sectors → Cut p (writeOf p from to map image (p .sectors * 2 + j)) (afterWrites p from to map image (p .sectors * 2 + j)) after
+      → (after ≡ afterWrites p from to map image (p .sectors * 2 + j)) ⊎ (after ≡ afterWrites p from to map image (p .sectors * 2 + suc j))
+  cut-leave after j h (unbegun e) = inl e
+  cut-leave after j h (finished e) =
+      inr (e ∙ ap (λ (w : Write). made p w (afterWrites p from to map image (p .sectors * 2 + j))) (write-leave p from to map image j h) ∙ sym (leave-more p from to map image j h))
+  cut-leave after j h (torn t k bytes any w l z) = absurd (id-body _ _ _ _ _ _ (sym (write-leave p from to map image j h) ∙ w))
+
+  abbrev pub LeftSome : (after : List ℕ) → Type 0
+  LeftSome after = (j : ℕ) × (0 < j) × Left p from to map image after j
+
+  left-some : (after : List ℕ) (j : ℕ) → 0 < j → j < p .sectors
+      → (after ≡ afterWrites p from to map image (p .sectors * 2 + j)) ⊎ (after ≡ afterWrites p from to map image (p .sectors * 2 + suc j)) → LeftSome after
+  left-some after j k h (inl e) = (j, k, rw e (left p from to map image fits maps may j (omega arith)))
+  left-some after j k h (inr e) = (suc j, omega arith, rw e (left p from to map image fits maps may (suc j) (omega arith)))
+
+  abbrev pub Phase : (after : List ℕ) → Type 0
+  Phase after = Unmoved p from to map image after ⊎ LeftSome after
+
+  slot-zero : (after : List ℕ) → 0 < p .sectors
+      → (after ≡ afterWrites p from to map image (p .sectors * 2 + 0)) ⊎ (after ≡ afterWrites p from to map image (p .sectors * 2 + 1)) → Phase after
+  slot-zero after h (inl e) =
+      let z : p .sectors * 2 + 0 ≡ p .sectors * 2 = omega arith in
+      inl (rw (e ∙ ap (afterWrites p from to map image) z) (copied p from to map image fits maps may (p .sectors * 2) (omega arith) .0))
+  slot-zero after h (inr e) = inr (1, omega arith, rw e (left p from to map image fits maps may 1 h))
+
+  -- behind A's slot 0
+  pub cut-late : (after : List ℕ) (i : ℕ) → p .sectors * 2 < i → i < p .sectors * 3 → Cut p (writeOf p from to map image i) (afterWrites p from to map image i) after → LeftSome after
+  cut-late after i l h c =
+      let j : ℕ = i - p .sectors * 2 in
+      let e : i ≡ p .sectors * 2 + j = omega arith in
+      left-some after j (omega arith) (omega arith) (cut-leave after j (omega arith) (rw e at c))
+
+  pub phase : (after : List ℕ) → Interrupted p from to map image after → Phase after
+  phase after x = by (decLt (x .i) (p .sectors * 2)) (decLt (p .sectors * 2) (x .i))
+    where
+      by : Dec (x .i < p .sectors * 2) → Dec (p .sectors * 2 < x .i) → Phase after
+      by (yes l) d = inl (cut-copy after (x .i) l (x .cut))
+      by (no l) (yes m) = inr (cut-late after (x .i) m (x .within) (x .cut))
+      by (no l) (no m) =
+          let e : x .i ≡ p .sectors * 2 + 0 = omega arith in
+          let some : 0 < p .sectors = omega (arith, fits .within .sectors-some) in
+          slot-zero after some (cut-leave after 0 some (rw e at (x .cut)))

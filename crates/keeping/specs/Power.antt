@@ -1,0 +1,20 @@
+-- Request E7: what power leaves of the image when it fails during a move.
+use Prim.Native.Nat.{ℕ, _*_, _<_}
+use mathlib.Core.Path.{_≡_}
+use mathlib.Core.List.{List}
+use lib.ListN.{length}
+use Rattle.geometry.specs.declared.params.Track.{Track}
+use Rattle.geometry.specs.declared.params.Params.{Params}
+use Rattle.keeping.specs.Keep.{Write, Body, made, writeOf, afterWrites}
+
+-- A write is cut short: it has not begun, or it is finished, an ID as a whole; data under way are anything, in their place.
+pub data Cut (p : Params) (w : Write) (before after : List ℕ) : Type 0 where
+  unbegun : after ≡ before → Cut p w before after
+  finished : after ≡ made p w before → Cut p w before after
+  torn : (t : Track) (k : ℕ) (bytes any : List ℕ) → w ≡ Body t k bytes → length any ≡ length bytes → after ≡ made p (Body t k any) before → Cut p w before after
+
+-- Finished writes stand, later ones did not begin: i writes are made, and write i, of 3n, is cut short.
+pub record Interrupted (p : Params) (from to : Track) (map image after : List ℕ) : Type 0 where
+  pub i : ℕ
+  pub within : i < p .sectors * 3
+  pub cut : Cut p (writeOf p from to map image i) (afterWrites p from to map image i) after
