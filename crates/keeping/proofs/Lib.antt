@@ -11,3 +11,5 @@ pub mod Outside
 pub mod Kept
 pub mod Again
 pub mod Power
+pub mod Missing
+pub mod Chosen

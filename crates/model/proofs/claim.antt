@@ -8,6 +8,7 @@ pub mod Change
 pub mod Making
 pub mod Sweeping
 pub mod Remaking
+pub mod Keeping
 pub mod Agrees
 pub mod Ends
 pub mod Current

@@ -3,6 +3,7 @@ pub mod Rows
 pub mod Judged
 pub mod Checked
 pub mod Known
+pub mod Assignable
 pub mod Outside
 pub mod Written
 pub mod Leaving

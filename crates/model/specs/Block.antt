@@ -47,6 +47,10 @@ countOf b = pick (eqb (b .extra) 0) 256 (b .extra)
 unfoldable pub fromBuffer : Block → Bool
 fromBuffer b = eqb (b .control / 32 % 2) 1
 
+-- Control bit 4: A's contents are kept (request E7).
+unfoldable pub keeps : Block → Bool
+keeps b = eqb (b .control / 16 % 2) 1
+
 -- The alternate track's address, in the three bytes given.
 unfoldable pub alternateOf : (given : List ℕ) → Lba
 alternateOf given = lbaOf (byte given 0) (byte given 1) (byte given 2)

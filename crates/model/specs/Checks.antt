@@ -24,7 +24,7 @@ use Rattle.model.specs.declared.verdict.Verdict.{Verdict}
 use Rattle.model.specs.declared.verdict.Verdict.the-variants.{Refused, Faulty, Passed}
 use Rattle.model.specs.declared.verdict.Judgement.{Judgement}
 use Rattle.model.specs.Block.{countOf}
-use Rattle.model.specs.Table.{HardOnly, Control, FillBit, Present, Parameters, Interleave, Address, Counted, Settled, SparedWhole, TableRow, applies, rowFor}
+use Rattle.model.specs.Table.{HardOnly, Control, FillBit, KeepBit, Present, Parameters, Interleave, Address, Counted, Settled, SparedWhole, TableRow, applies, rowFor}
 
 -- A test, and the verdict where it hits.
 pub record Test : Type 0 where
@@ -54,13 +54,15 @@ isUnknown (OnDisk command) = false
 isUnknown Copy = false
 isUnknown Unknown = true
 
--- Only control bit 7, without effect, and 5 where named are defined.
-unfoldable pub controlWrong : (named : Bool) → (control : ℕ) → Bool
-controlWrong named control = not (eqb (control % 128) 0 || (named && eqb (control % 128) 32))
+-- Only control bit 7, without effect, and 5 and 4 where named are defined, not both at once.
+unfoldable pub controlWrong : (fill keep : Bool) → (control : ℕ) → Bool
+controlWrong fill keep control = not (eqb (control % 128) 0 || ((fill && eqb (control % 128) 32) || (keep && eqb (control % 128) 16)))
 
 -- Byte 1 bit 7 in any command, a command that only hard disks have, or an undefined control bit.
 unfoldable pub blockWrong : TableRow → Block → View → Bool
-blockWrong e b v = b .top || ((applies HardOnly e && isFloppy (v .medium)) || (applies Control e && controlWrong (applies FillBit e) (b .control)))
+blockWrong e b v =
+    b .top
+    || ((applies HardOnly e && isFloppy (v .medium)) || (applies Control e && controlWrong (applies FillBit e) (applies KeepBit e) (b .control)))
 
 -- A question about the parameters in force: without any, 0Ah has come before it.
 unfoldable pub withParams : Setting → (Params → Bool) → Bool

@@ -20,12 +20,13 @@ use Rattle.geometry.specs.Config.{settingOf, labelRest, labelHolds}
 use Rattle.interleave.specs.Layout.{layoutOf}
 use Rattle.track.specs.declared.state.State.{State}
 use Rattle.track.specs.declared.state.State.the-variants.{Sound, Bad, Moved, Taken}
-use Rattle.track.specs.State.{isBad, isMoved, isTaken}
+use Rattle.track.specs.State.{isBad, isMoved, isTaken, isTakenByOther}
 use Rattle.track.specs.Image.{withTrack}
 use Rattle.track.specs.Pair.{stateOf, pairSplit}
 use Rattle.formatter.specs.Format.{formatted, soundFrom}
 use Rattle.formatter.specs.Check.{checkCode}
 use Rattle.sectors.specs.Transfer.{Transfer, begun, reading, writing}
+use Rattle.keeping.specs.Keep.{keepCode, kept}
 use Rattle.model.specs.declared.block.Block.{Block}
 use Rattle.model.specs.declared.table.Command.{Command}
 use Rattle.model.specs.declared.table.Command.the-variants.{Free, OnDisk, Copy, Unknown}
@@ -41,7 +42,7 @@ use Rattle.model.specs.declared.table.SectorCommand.{SectorCommand}
 use Rattle.model.specs.declared.table.SectorCommand.the-variants.{Read, Write}
 use Rattle.model.specs.declared.record.Drive.{Drive}
 use Rattle.model.specs.declared.record.Ending.{Ending}
-use Rattle.model.specs.Block.{countOf, fromBuffer, alternateOf}
+use Rattle.model.specs.Block.{countOf, fromBuffer, keeps, alternateOf}
 use Rattle.model.specs.Checks.{Test, on, judged}
 use Rattle.model.specs.Record.{goodAnswer, good, failed, unless, Effect, effect, Made, made}
 
@@ -114,30 +115,41 @@ unfoldable pub write : Block → Params → (given : List ℕ) → Drive → (bu
 write b p given entry buffer image = transferred b entry buffer (writing p (countOf b) (b .address) given (begun image))
 
 -- ---- 0Eh Assign Alternate. A is the track of the block's address a, B the track of the address `alternate` given.
--- First byte above 1Fh, 22h; B out of range, 21h; A moved, 1Dh; A taken, 1Ch; B = A, 22h; B taken, 1Dh; B moved or bad, 1Fh.
-unfoldable pub assignTests : Params → (first : ℕ) → (a alternate : Lba) → (stateA stateB : State) → List Test
-assignTests p first a alternate stateA stateB =
+-- First byte above 1Fh, 22h; B out of range, 21h; A moved, 1Dh; A taken, 1Ch; B = A, 22h; B taken, 1Dh; B moved or bad, 1Fh. Request E7: a
+-- taken B whose partner is A is free for A, which is not moved then; after all other checks comes the code of what is missing in A.
+unfoldable pub assignTests : Params → (first : ℕ) → (a alternate : Lba) → (stateA stateB : State) → (missing : ℕ) → List Test
+assignTests p first a alternate stateA stateB missing =
     on (ltb 0x1F first) 0x22 a
     ∷ on (ltb (lastAddress p .0) (alternate .0)) 0x21 alternate
     ∷ on (isMoved stateA) 0x1D a
     ∷ on (isTaken stateA) 0x1C a
     ∷ on (eqb (trackOf p alternate .0) (trackOf p a .0)) 0x22 a
-    ∷ on (isTaken stateB) 0x1D alternate
+    ∷ on (isTakenByOther (trackOf p a) stateB) 0x1D alternate
     ∷ on (isMoved stateB || isBad stateB) 0x1F alternate
+    ∷ on (not (eqb missing 0)) missing a
     ∷ []
 
 -- Then both are formatted with the block's interleave, A as moved to B, B as taken by A. The buffer's fill reaches B only.
 unfoldable pub assigned : Block → Params → (A B : Track) → (fill image : List ℕ) → List ℕ
 assigned b p A B fill image = madeAt b p B (Taken A) fill (madeAt b p A (Moved B) (plainFill (mediumOf (b .drive)) p) image)
 
+-- With keep A must be sound with every sector found, else the code of the first missing one; without, nothing is asked.
+unfoldable pub missingIn : Block → Params → (A : Track) → (image : List ℕ) → ℕ
+missingIn b p A image = pick (keeps b) (keepCode p A image) 0
+
+-- With keep A is moved to B with its contents, and the buffer is not used.
+unfoldable pub alternated : Block → Params → (A B : Track) → (buffer image : List ℕ) → List ℕ
+alternated b p A B buffer image = pick (keeps b) (kept p A B (layoutOf (p .sectors) (b .extra)) image) (assigned b p A B (fillOf b p buffer) image)
+
 unfoldable pub assignAlternate : Block → Params → (buffer given : List ℕ) → Drive → (image : List ℕ) → Made
 assignAlternate b p buffer given entry image =
+    let A = trackOf p (b .address) in
+    let B = trackOf p (alternateOf given) in
     unless
     (judged
-    (assignTests p (byte given 0) (b .address) (alternateOf given)
-    (stateOf p (trackOf p (b .address)) image) (stateOf p (trackOf p (alternateOf given)) image)))
+    (assignTests p (byte given 0) (b .address) (alternateOf given) (stateOf p A image) (stateOf p B image) (missingIn b p A image)))
     (b .drive) entry (λ e. made e image)
-    (made (good (b .drive) 0 0 entry) (assigned b p (trackOf p (b .address)) (trackOf p (alternateOf given)) (fillOf b p buffer) image))
+    (made (good (b .drive) 0 0 entry) (alternated b p A B buffer image))
 
 -- ---- 11h Initialize: takes the 10 configuration bytes; not valid, 22h. They come into force, not pending where they are a
 -- valid label's (request E1), else pending. The image is untouched.

@@ -38,7 +38,7 @@ use Rattle.model.specs.declared.table.SectorCommand.{SectorCommand}
 use Rattle.model.specs.declared.table.SectorCommand.the-variants.{Read, Write}
 use Rattle.model.specs.declared.verdict.Verdict.{Verdict}
 use Rattle.model.specs.declared.verdict.Verdict.the-variants.{Refused, Faulty, Passed}
-use Rattle.model.specs.Block.{blockOf, isCopy, isWhole, copyOf, countOf, fromBuffer}
+use Rattle.model.specs.Block.{blockOf, isCopy, isWhole, copyOf, countOf, fromBuffer, keeps}
 use Rattle.model.specs.Table.{rowFor}
 use Rattle.model.specs.declared.verdict.View.{View}
 use Rattle.model.specs.Checks.{Test, on, judged, presentWith, judge, judgeCopy}
@@ -206,9 +206,9 @@ unfoldable pub addressGiven : (given : List ℕ) → Lba
 addressGiven given = record { 0 = byte given 0 * 65536 + byte given 1 * 256 + byte given 2 }
 
 -- Assign Alternate of track A at address a to track B at address b: first byte above 1Fh, 22h; B out of range, 21h; A moved,
--- 1Dh; A taken, 1Ch; B = A, 22h; B taken, 1Dh; B moved or bad, 1Fh.
-unfoldable pub unassignable : (Track → Kind) → Params → (first : ℕ) → (a b : Lba) → List Test
-unassignable kind p first a b =
+-- 1Dh; A taken, 1Ch; B = A, 22h; B taken, 1Dh; B moved or bad, 1Fh; with keep, A bad, 19h (request E7).
+unfoldable pub unassignable : (Track → Kind) → Params → (keep : Bool) → (first : ℕ) → (a b : Lba) → List Test
+unassignable kind p keep first a b =
     on (leb 0x20 first) 0x22 a
     ∷ on (leb (trackCount p * p .sectors) (b .0)) 0x21 b
     ∷ on (isMoved (kind (trackOf p a))) 0x1D a
@@ -216,6 +216,7 @@ unassignable kind p first a b =
     ∷ on (eqb (trackOf p a .0) (trackOf p b .0)) 0x22 a
     ∷ on (isTaken (kind (trackOf p b))) 0x1D b
     ∷ on (isMoved (kind (trackOf p b)) || isBad (kind (trackOf p b))) 0x1F b
+    ∷ on (keep && isBad (kind (trackOf p a))) 0x19 a
     ∷ []
 
 -- ---- Read and Write: the sectors done, how it ended, the disk after it
@@ -325,15 +326,19 @@ read b p m u = transfer b (readFrom p (countOf b) (b .address) u) (inARow (readF
 unfoldable pub write : Block → Params → (given : List ℕ) → Machine → Disk → Reply × Machine
 write b p given m u = transfer b (writeFrom p (countOf b) (b .address) given u) [] m
 
--- An assignment sets both tracks' states and interleaves, and B's fill at each address of A, which it makes moved.
-unfoldable pub assignTo : Params → (A B : Track) → (inter : ℕ) → (fill : List ℕ) → Disk → Disk
-assignTo p A B inter fill u = filled p A fill (becomes B (taken A) inter (becomes A (moved B) inter u))
+-- An assignment sets both tracks' states and interleaves, and B's fill at each address of A, which it makes moved; with keep A's bytes
+-- stay.
+unfoldable pub moving : (A B : Track) → (inter : ℕ) → Disk → Disk
+moving A B inter u = becomes B (taken A) inter (becomes A (moved B) inter u)
+
+unfoldable pub assignTo : Params → (keep : Bool) → (A B : Track) → (inter : ℕ) → (fill : List ℕ) → Disk → Disk
+assignTo p keep A B inter fill u = pick keep (moving A B inter u) (filled p A fill (moving A B inter u))
 
 unfoldable pub assignAlternate : Block → Params → (given : List ℕ) → Machine → Disk → Reply × Machine
 assignAlternate b p given m u =
-    providing (judged (unassignable (u .kind) p (byte given 0) (b .address) (addressGiven given))) b m
+    providing (judged (unassignable (u .kind) p (keeps b) (byte given 0) (b .address) (addressGiven given))) b m
     (well b 0 []
-    (withDisk (b .drive) (assignTo p (trackOf p (b .address)) (trackOf p (addressGiven given)) (b .extra) (filling b p m) u) m))
+    (withDisk (b .drive) (assignTo p (keeps b) (trackOf p (b .address)) (trackOf p (addressGiven given)) (b .extra) (filling b p m) u) m))
 
 -- Initialize: not valid, 22h; else in force, not pending where it is the configuration stored (request E1), else pending.
 unfoldable pub isStored : Option (List ℕ) → (config : List ℕ) → Bool

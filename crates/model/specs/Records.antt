@@ -4,7 +4,7 @@
 -- Reset is lent the images for reading only, so that it can change none.
 use Prim.Native.Nat.{ℕ, _+_, _*_, _≤_, _<_}
 use mathlib.Core.Path.{_≡_}
-use mathlib.Core.Bool.{Bool, true, false, _&&_, _||_}
+use mathlib.Core.Bool.{Bool, true, false, not, _&&_, _||_}
 use mathlib.Core.List.{List, _++_}
 use lib.ListN.{length, getD, replicate}
 use lib.Dec.{leb, ltb, eqb}
@@ -30,7 +30,7 @@ use Rattle.model.specs.declared.table.TrackCommand.the-variants.{FormatD
 use Rattle.model.specs.declared.table.SectorCommand.the-variants.{Read, Write}
 use Rattle.model.specs.declared.record.Controller.{Controller}
 use Rattle.model.specs.declared.record.Answer.{Answer}
-use Rattle.model.specs.Block.{blockOf, isCopy, isWhole, copyOf, countOf, alternateOf}
+use Rattle.model.specs.Block.{blockOf, isCopy, isWhole, copyOf, countOf, keeps, alternateOf}
 use Rattle.model.specs.Table.{rowFor}
 use Rattle.model.specs.Record.{driveAt, settingIn}
 use Rattle.model.specs.Engine.{imageOf, execute}
@@ -45,11 +45,11 @@ unfoldable pub oneTrack : Params → (a b : Lba) → Bool
 oneTrack p a b = eqb (trackOf p a .0) (trackOf p b .0)
 
 -- Of the commands on tracks: by Format Track and Format Bad Track the addresses of the track; by Assign Alternate those of A
--- and B; by Format Drive those from track s on; by Check Track none.
+-- and B, with keep of B alone; by Format Drive those from track s on; by Check Track none.
 unfoldable pub onTracks : Params → Block → (given : List ℕ) → Lba → TrackCommand → Bool
 onTracks p b given a FormatTrack = oneTrack p a (b .address)
 onTracks p b given a FormatBadTrack = oneTrack p a (b .address)
-onTracks p b given a AssignAlternate = oneTrack p a (b .address) || oneTrack p a (alternateOf given)
+onTracks p b given a AssignAlternate = (not (keeps b) && oneTrack p a (b .address)) || oneTrack p a (alternateOf given)
 onTracks p b given a FormatDrive = leb (trackOf p (b .address) .0) (trackOf p a .0)
 onTracks p b given a CheckTrack = false
 

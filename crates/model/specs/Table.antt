@@ -18,8 +18,8 @@ use Rattle.model.specs.declared.table.Data.the-variants.{Nothing, Sense,
 pub data Check : Type 0 where
   -- 22h on a floppy (request E3)
   HardOnly : Check
-  -- an undefined control bit, 22h; with FillBit, bit 5 is defined
-  Control FillBit : Check
+  -- an undefined control bit, 22h; with FillBit, bit 5 is defined, with KeepBit bit 4 (request E7), but not both at once
+  Control FillBit KeepBit : Check
   -- 04h
   Present : Check
   -- 0Ah
@@ -43,6 +43,7 @@ checkNumber Address = 6
 checkNumber Counted = 7
 checkNumber Settled = 8
 checkNumber SparedWhole = 9
+checkNumber KeepBit = 10
 
 unfoldable pub isAmong : Check → List Check → Bool
 isAmong check [] = false
@@ -88,7 +89,7 @@ table =
     ∷ row (OnDisk (ArmWork Seek)) addressChecks Nothing Nothing
     ∷ unknown
     ∷ unknown
-    ∷ row (OnDisk (TrackWork AssignAlternate)) (HardOnly ∷ FillBit ∷ Interleave ∷ addressChecks) Alternate Nothing
+    ∷ row (OnDisk (TrackWork AssignAlternate)) (HardOnly ∷ FillBit ∷ KeepBit ∷ Interleave ∷ addressChecks) Alternate Nothing
     ∷ row (Free WriteBuffer) [] Buffer Nothing
     ∷ row (Free ReadBuffer) [] Nothing Buffer
     ∷ row (Free Initialize) (Present ∷ []) Configuration Nothing

@@ -1,6 +1,7 @@
 -- Document 01, 'Tracks and slots': a track's states.
 use Prim.Native.Nat.{ℕ}
-use mathlib.Core.Bool.{Bool, true, false}
+use mathlib.Core.Bool.{Bool, true, false, not}
+use lib.Dec.{eqb}
 use Rattle.geometry.specs.declared.params.Track.{Track}
 use Rattle.geometry.specs.Params.{track}
 use Rattle.track.specs.declared.state.State.{State}
@@ -38,3 +39,10 @@ isTaken Sound = false
 isTaken Bad = false
 isTaken (Moved u) = false
 isTaken (Taken u) = true
+
+-- Taken, by another track than t.
+unfoldable pub isTakenByOther : (t : Track) → State → Bool
+isTakenByOther t Sound = false
+isTakenByOther t Bad = false
+isTakenByOther t (Moved u) = false
+isTakenByOther t (Taken u) = not (eqb (u .0) (t .0))

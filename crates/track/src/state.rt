@@ -1,7 +1,7 @@
 // A track's state.
 use geometry::params::Track;
 ghost use mathlib.Core.Path.{_≡_};
-ghost use Rattle.track.specs.State.{flagOf, partnerOf, isBad, isMoved, isTaken};
+ghost use Rattle.track.specs.State.{flagOf, partnerOf, isBad, isMoved, isTaken, isTakenByOther};
 
 // The state that a format gives a track.
 pub enum State {
@@ -52,6 +52,17 @@ pub fn is_moved(state: State) -> bool
         State::Bad => false,
         State::Moved(_) => true,
         State::Taken(_) => false,
+    }
+}
+
+pub fn is_taken_by_other(t: Track, state: State) -> bool
+    ensures { λ r. ⌜ r ≡ isTakenByOther t state ⌝ }
+{
+    match state {
+        State::Sound => false,
+        State::Bad => false,
+        State::Moved(_) => false,
+        State::Taken(partner) => !partner.is_same(t),
     }
 }
 

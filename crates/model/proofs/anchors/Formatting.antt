@@ -15,7 +15,7 @@ use Rattle.geometry.specs.Params.{track}
 use Rattle.interleave.specs.Layout.{emptyFrom, layAt, place, laid, layoutOf}
 use Rattle.track.specs.declared.state.State.the-variants.{Bad}
 use Rattle.track.specs.Id.{idBytes, idIn, idFor, ownId, withSector}
-use Rattle.track.specs.State.{flagOf, partnerOf, isBad, isMoved, isTaken}
+use Rattle.track.specs.State.{flagOf, partnerOf, isBad, isMoved, isTaken, isTakenByOther}
 use Rattle.track.specs.Image.{trackBytes, withTrack, slotId, firstId}
 use Rattle.track.specs.Pair.{stateBy, stateOf, splits, pairSplit}
 use Rattle.formatter.specs.Format.{slotMade, slotsMade, stepped, afterSteps, formatted, soundFrom}
@@ -25,11 +25,11 @@ use Rattle.model.specs.declared.table.TrackCommand.{TrackCommand}
 use Rattle.model.specs.declared.table.TrackCommand.the-variants.{FormatDrive, FormatTrack, FormatBadTrack, AssignAlternate}
 use Rattle.model.specs.declared.record.Drive.{Drive}
 use Rattle.model.specs.declared.record.Controller.{Controller}
-use Rattle.model.specs.Block.{blockOf, fromBuffer, alternateOf}
+use Rattle.model.specs.Block.{blockOf, fromBuffer, keeps, alternateOf}
 use Rattle.model.specs.Checks.{judged}
 use Rattle.model.specs.Record.{blankDrive, driveAt, unlessNamed}
 use Rattle.model.specs.Commands.{plainByte, plainFill, fillOf, madeAt, driveFormatted, formatDrive, aloneTests}
-use Rattle.model.specs.Commands.{formatTrack, assignTests, assigned, assignAlternate, doTrack, asEffect, doDisk, carryOut}
+use Rattle.model.specs.Commands.{formatTrack, assignTests, assigned, missingIn, alternated, assignAlternate, doTrack, asEffect, doDisk, carryOut}
 
 p : Params
 p = record { cylinders = 1; heads = 3; sectors = 2; size = 1 }
@@ -88,8 +88,8 @@ formats :
     × (leavesOn 2 FormatDrive 3 0x20 [] ≡ other ++ replicate 6 0 ++ old 18 ++ slot 0xA1 0 0 1 0 0 0 0 0xE5 ++ slot 0xA1 0 0 1 1 0 0 0 0xE5
     ++ slot 0xA1 0 0 2 0 0 0 0 0xE5 ++ slot 0xA1 0 0 2 1 0 0 0 0xE5 ++ old 2)
 unfolding p config other entry controller leavesOn leaves slot old carryOut doDisk doTrack asEffect formatDrive formatTrack assignAlternate assigned
-    driveFormatted madeAt plainByte plainFill fillOf fromBuffer mediumOf isFloppy blockOf alternateOf judged aloneTests assignTests isBad isMoved
-    isTaken unlessNamed driveAt blankDrive pairSplit splits stateOf stateBy firstId idIn ownId trackBytes slotId withTrack part splice rows formatted
+    alternated missingIn driveFormatted madeAt plainByte plainFill fillOf fromBuffer keeps mediumOf isFloppy blockOf alternateOf judged aloneTests assignTests isBad isMoved
+    isTaken isTakenByOther unlessNamed driveAt blankDrive pairSplit splits stateOf stateBy firstId idIn ownId trackBytes slotId withTrack part splice rows formatted
     slotsMade slotMade withSector idBytes idFor flagOf partnerOf soundFrom layoutOf laid place layAt emptyFrom someBelow isSome firstBelow firstFrom
     pick
 formats = (refl, refl, refl, refl, refl, refl, refl, refl, refl, refl)
@@ -115,8 +115,8 @@ interleaved :
     × (makes AssignAlternate 1 (0 ∷ 0 ∷ 9 ∷ []) ≡ old 16 ++ track-of 0 2 2 ++ old 36 ++ track-of 2 3 0)
     × (makes FormatDrive 5 [] ≡ config ++ replicate 6 0 ++ old 36 ++ track-of 1 0 0 ++ track-of 2 0 0)
 unfolding q config other entry controller makes track-of slot old carryOut doDisk doTrack asEffect formatDrive formatTrack assignAlternate assigned
-    driveFormatted madeAt plainByte plainFill fillOf fromBuffer mediumOf isFloppy blockOf alternateOf judged aloneTests assignTests isBad isMoved
-    isTaken unlessNamed driveAt blankDrive pairSplit splits stateOf stateBy firstId idIn ownId trackBytes slotId withTrack part splice rows formatted
+    alternated missingIn driveFormatted madeAt plainByte plainFill fillOf fromBuffer keeps mediumOf isFloppy blockOf alternateOf judged aloneTests assignTests isBad isMoved
+    isTaken isTakenByOther unlessNamed driveAt blankDrive pairSplit splits stateOf stateBy firstId idIn ownId trackBytes slotId withTrack part splice rows formatted
     slotsMade slotMade withSector idBytes idFor flagOf partnerOf soundFrom layoutOf laid place layAt emptyFrom someBelow isSome firstBelow firstFrom
     pick
 interleaved = (refl, refl, refl, refl)

@@ -8,7 +8,7 @@ use Rattle.base.specs.Pick.{pick}
 use Rattle.base.specs.Same.{sameBytes}
 use Rattle.geometry.specs.Medium.{mediumOf, isFloppy, isIn, rangesOf}
 use Rattle.geometry.specs.Config.{sizeFor, fittedTo, fieldsIn, settingBy, settingOf, isValid}
-use Rattle.model.specs.Block.{blockOf, countOf, fromBuffer, isWhole, blockLength, isCopy}
+use Rattle.model.specs.Block.{blockOf, countOf, fromBuffer, keeps, isWhole, blockLength, isCopy}
 use Rattle.model.specs.Table.{checkNumber, isAmong, rowFor}
 use Rattle.model.specs.Checks.{judged, presentWith, isUnknown, blockWrong, controlWrong, withParams, interleaveWrong, pastEnd, notSpared, sizeIn, bytesOf, reachOf, hitsOf, inOrder, judge}
 use Rattle.model.specs.Sense.{addressed, senseOf}
@@ -18,7 +18,7 @@ use Rattle.model.specs.Machine.{well}
 use Rattle.model.specs.Machine.{isBad, isMoved, isTaken, denied, paired, parted, partedBy, someParted, addressGiven, unassignable}
 use Rattle.model.specs.Machine.{finished, withFirst, passing, readFrom, writeFrom, inARow, leaving, transferBy, transfer}
 use Rattle.model.specs.Machine.{fillingOn, filling, fromOn, reformatted}
-use Rattle.model.specs.Machine.{formatDrive, checkTrack, formatTrack, formatBadTrack, read, write, assignTo, assignAlternate, isStored, initializeBy}
+use Rattle.model.specs.Machine.{formatDrive, checkTrack, formatTrack, formatBadTrack, read, write, moving, assignTo, assignAlternate, isStored, initializeBy}
 use Rattle.model.specs.Machine.{freely, seeking, onTracks, onSectors, withParameters, carried, settingWith, seen, ordered, restored, step}
 use Rattle.model.specs.Claim.{replies}
 use Rattle.model.proofs.anchors.Session.{Line, told, allTold, says, four, six, config, sent, senses, lengthsOf, Answers}
@@ -240,10 +240,10 @@ pub leaves : Answers (lengthsOf 25360 25360 0 0) (after-start well-done)
     × Answers (lengthsOf 25360 25360 0 0) (after-start reset-all)
 unfolding both plain good bad within tried clear kept all begun well-done tracks-made moved-bytes cut-short at-fault in-pairs in-order turned-away
     reset-all after-start told allTold says four six config sent senses lengthsOf Answers pick sameBytes mediumOf isFloppy isIn rangesOf sizeFor
-    fittedTo fieldsIn settingBy settingOf blockOf countOf fromBuffer rowFor presentWith judge judged inOrder hitsOf isUnknown blockWrong controlWrong
+    fittedTo fieldsIn settingBy settingOf blockOf countOf fromBuffer keeps rowFor presentWith judge judged inOrder hitsOf isUnknown blockWrong controlWrong
     withParams interleaveWrong pastEnd notSpared isValid reachOf sizeIn bytesOf isAmong checkNumber addressed senseOf freshDisk freshMachine changed
     withSense withBuffer withDisk inForce becomes filled storing failingOn well providingOn isBad isMoved isTaken denied paired parted partedBy
     someParted addressGiven unassignable finished withFirst passing readFrom writeFrom inARow leaving transferBy transfer fillingOn filling fromOn
-    reformatted formatDrive checkTrack formatTrack formatBadTrack read write assignTo assignAlternate isStored initializeBy freely seeking onTracks
+    reformatted formatDrive checkTrack formatTrack formatBadTrack read write moving assignTo assignAlternate isStored initializeBy freely seeking onTracks
     onSectors withParameters carried settingWith seen ordered restored step replies isWhole blockLength isCopy
 leaves = (refl, refl, refl, refl, refl, refl, refl, refl, refl)

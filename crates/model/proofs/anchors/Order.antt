@@ -13,7 +13,7 @@ use Rattle.geometry.specs.Config.{sizeFor, fittedTo, fieldsIn, settingBy, setti
 use Rattle.model.specs.declared.block.Block.{Block}
 use Rattle.model.specs.declared.verdict.Verdict.{Verdict}
 use Rattle.model.specs.declared.verdict.Verdict.the-variants.{Refused, Faulty, Passed}
-use Rattle.model.specs.Block.{blockOf, countOf, fromBuffer, alternateOf, isWhole, blockLength, isCopy}
+use Rattle.model.specs.Block.{blockOf, countOf, fromBuffer, keeps, alternateOf, isWhole, blockLength, isCopy}
 use Rattle.model.specs.Table.{checkNumber, isAmong, rowFor}
 use Rattle.model.specs.declared.verdict.View.{View}
 use Rattle.model.specs.Checks.{judged, presentWith, isUnknown, blockWrong, controlWrong, withParams, interleaveWrong, pastEnd, notSpared, sizeIn, bytesOf, reachOf, hitsOf, inOrder, judge}
@@ -172,12 +172,15 @@ unfolding drive hard ready pending₁ pending₂ large unknown short absent flop
     judge judged inOrder hitsOf isUnknown blockWrong controlWrong withParams interleaveWrong pastEnd notSpared isValid reachOf sizeIn bytesOf isAmong checkNumber
 checks = refl
 
--- each undefined control bit by itself
-undefined-bits : map (λ (control : ℕ). map (said (when ready 0x00 0 1 control 512 512 [])) opcodes) (0x01 ∷ 0x02 ∷ 0x04 ∷ 0x08 ∷ 0x10 ∷ 0x40 ∷ [])
-    ≡ replicate 6 (row 0x00 0x00 0x20 0x00 0x22 0x22 0x22 0x22 0x22 0x20 0x22 0x22 0x20 0x20 0x22 0x00 0x00 0x00 0x20)
+-- each undefined control bit by itself, and bits 4 and 5 together; bit 4 is defined in 0Eh, with bit 7 or without
+undefined-bits :
+    (map (λ (control : ℕ). map (said (when ready 0x00 0 1 control 512 512 [])) opcodes) (0x01 ∷ 0x02 ∷ 0x04 ∷ 0x08 ∷ 0x40 ∷ 0x30 ∷ 0xB0 ∷ [])
+    ≡ replicate 7 (row 0x00 0x00 0x20 0x00 0x22 0x22 0x22 0x22 0x22 0x20 0x22 0x22 0x20 0x20 0x22 0x00 0x00 0x00 0x20))
+    × (map (λ (control : ℕ). map (said (when ready 0x00 0 1 control 512 512 [])) opcodes) (0x10 ∷ 0x90 ∷ [])
+    ≡ replicate 2 (row 0x00 0x00 0x20 0x00 0x22 0x22 0x22 0x22 0x22 0x20 0x22 0x22 0x20 0x20 0x00 0x00 0x00 0x00 0x20))
 unfolding drive hard ready heard row opcodes when said viewOf settingIn presentWith mediumOf isFloppy isIn rangesOf settingOf settingBy fieldsIn sizeFor fittedTo pick blockOf countOf rowFor
     judge judged inOrder hitsOf isUnknown blockWrong controlWrong withParams interleaveWrong pastEnd notSpared isValid reachOf sizeIn bytesOf isAmong checkNumber
-undefined-bits = refl
+undefined-bits = (refl, refl)
 
 -- an opcode behind 11h, but for Copy's, is unknown too, with bit 7 or without
 past-table : map (said (when absent 0x80 0 0 0xFF 0 0 [])) (0x12 ∷ 0x13 ∷ 0x1F ∷ 0x21 ∷ 0x80 ∷ 0x91 ∷ 0xFF ∷ []) ≡ replicate 7 0x20
@@ -202,17 +205,17 @@ block-address = (refl, refl)
 
 -- ---- A block's fields
 fields : Block → List ℕ
-fields b = b .opcode ∷ pick (b .top) 1 0 ∷ b .drive ∷ b .address .0 ∷ b .extra ∷ b .control ∷ countOf b ∷ pick (fromBuffer b) 1 0 ∷ []
+fields b = b .opcode ∷ pick (b .top) 1 0 ∷ b .drive ∷ b .address .0 ∷ b .extra ∷ b .control ∷ countOf b ∷ pick (fromBuffer b) 1 0 ∷ pick (keeps b) 1 0 ∷ []
 
 blocks :
-    -- opcode, bit 7, drive, address, byte 4, control; the count, and whether control bit 5 is on
-    (fields (blockOf (0x08 ∷ 0x00 ∷ 0x00 ∷ 0x00 ∷ 0x00 ∷ 0x00 ∷ [])) ≡ 0x08 ∷ 0 ∷ 0 ∷ 0x000000 ∷ 0x00 ∷ 0x00 ∷ 256 ∷ 0 ∷ [])
-    × (fields (blockOf (0x0A ∷ 0x3F ∷ 0xFF ∷ 0xFF ∷ 0x01 ∷ 0x20 ∷ [])) ≡ 0x0A ∷ 0 ∷ 1 ∷ 0x1FFFFF ∷ 0x01 ∷ 0x20 ∷ 1 ∷ 1 ∷ [])
-    × (fields (blockOf (0x04 ∷ 0x41 ∷ 0x23 ∷ 0x45 ∷ 0xFF ∷ 0xDF ∷ [])) ≡ 0x04 ∷ 0 ∷ 2 ∷ 0x012345 ∷ 0xFF ∷ 0xDF ∷ 255 ∷ 0 ∷ [])
-    × (fields (blockOf (0xFF ∷ 0xE0 ∷ 0x01 ∷ 0x00 ∷ 0x80 ∷ 0xA0 ∷ [])) ≡ 0xFF ∷ 1 ∷ 3 ∷ 0x000100 ∷ 0x80 ∷ 0xA0 ∷ 128 ∷ 1 ∷ [])
-    × (fields (blockOf (0x03 ∷ 0x7F ∷ 0x00 ∷ 0x00 ∷ 0x02 ∷ 0x3F ∷ [])) ≡ 0x03 ∷ 0 ∷ 3 ∷ 0x1F0000 ∷ 0x02 ∷ 0x3F ∷ 2 ∷ 1 ∷ [])
-    × (fields (blockOf (0x00 ∷ 0x9F ∷ 0x00 ∷ 0x07 ∷ 0x00 ∷ 0x80 ∷ [])) ≡ 0x00 ∷ 1 ∷ 0 ∷ 0x1F0007 ∷ 0x00 ∷ 0x80 ∷ 256 ∷ 0 ∷ [])
-unfolding fields blockOf countOf fromBuffer pick
+    -- opcode, bit 7, drive, address, byte 4, control; the count, and whether control bits 5 and 4 are on
+    (fields (blockOf (0x08 ∷ 0x00 ∷ 0x00 ∷ 0x00 ∷ 0x00 ∷ 0x00 ∷ [])) ≡ 0x08 ∷ 0 ∷ 0 ∷ 0x000000 ∷ 0x00 ∷ 0x00 ∷ 256 ∷ 0 ∷ 0 ∷ [])
+    × (fields (blockOf (0x0A ∷ 0x3F ∷ 0xFF ∷ 0xFF ∷ 0x01 ∷ 0x20 ∷ [])) ≡ 0x0A ∷ 0 ∷ 1 ∷ 0x1FFFFF ∷ 0x01 ∷ 0x20 ∷ 1 ∷ 1 ∷ 0 ∷ [])
+    × (fields (blockOf (0x04 ∷ 0x41 ∷ 0x23 ∷ 0x45 ∷ 0xFF ∷ 0xDF ∷ [])) ≡ 0x04 ∷ 0 ∷ 2 ∷ 0x012345 ∷ 0xFF ∷ 0xDF ∷ 255 ∷ 0 ∷ 1 ∷ [])
+    × (fields (blockOf (0xFF ∷ 0xE0 ∷ 0x01 ∷ 0x00 ∷ 0x80 ∷ 0xA0 ∷ [])) ≡ 0xFF ∷ 1 ∷ 3 ∷ 0x000100 ∷ 0x80 ∷ 0xA0 ∷ 128 ∷ 1 ∷ 0 ∷ [])
+    × (fields (blockOf (0x03 ∷ 0x7F ∷ 0x00 ∷ 0x00 ∷ 0x02 ∷ 0x3F ∷ [])) ≡ 0x03 ∷ 0 ∷ 3 ∷ 0x1F0000 ∷ 0x02 ∷ 0x3F ∷ 2 ∷ 1 ∷ 1 ∷ [])
+    × (fields (blockOf (0x00 ∷ 0x9F ∷ 0x00 ∷ 0x07 ∷ 0x00 ∷ 0x80 ∷ [])) ≡ 0x00 ∷ 1 ∷ 0 ∷ 0x1F0007 ∷ 0x00 ∷ 0x80 ∷ 256 ∷ 0 ∷ 0 ∷ [])
+unfolding fields blockOf countOf fromBuffer keeps pick
 blocks = (refl, refl, refl, refl, refl, refl)
 
 -- the alternate's address, in the engine and in the machine

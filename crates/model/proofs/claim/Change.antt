@@ -112,7 +112,13 @@ not-partner p u image t v w was (inr e) m k is =
     true≢false (sym (ap isMoved (ap (u .kind) (sym (same-track v w is)) ∙ was .takes v e .returned)) ∙ m)
 
 -- ---- A track that is made anew
--- Track t has a state, an interleave and the bytes of its format.
+-- Track t has a state, an interleave and the IDs of its format.
+pub record Shaped (p : Params) (u : Disk) (image : List ℕ) (t : Track) (κ : Kind) (f : ℕ) : Type 0 where
+  pub kind : u .kind t ≡ κ
+  pub inter : u .inter t ≡ f
+  pub forms : Formed p t (stateFor κ) f image
+
+-- And the fill: the bytes of its format.
 pub record Anew (p : Params) (u : Disk) (image : List ℕ) (t : Track) (κ : Kind) (f : ℕ) (fill : List ℕ) : Type 0 where
   pub kind : u .kind t ≡ κ
   pub inter : u .inter t ≡ f
@@ -123,43 +129,43 @@ module _ (p : Params) (w : Within p) (u : Disk) (image : List ℕ) (f : ℕ) (hf
     some : 0 < p .sectors
     some = omega (arith, w .sectors-some)
 
-    forms : Formed p t (stateFor κ) f image
-    forms = format-forms p t (stateFor κ) f fill image some lf (is .bytes)
+    pub shaped : Shaped p u image t κ f
+    shaped = record { kind = is .kind; inter = is .inter; forms = format-forms p t (stateFor κ) f fill image some lf (is .bytes) }
 
     -- the fill is in each sector's slot
-    fills : (a : Lba) → slotData p (slotOf (p .sectors) f (sectorOf p a)) (trackBytes p t image) ≡ fill
+    pub fills : (a : Lba) → slotData p (slotOf (p .sectors) f (sectorOf p a)) (trackBytes p t image) ≡ fill
     fills a = format-fills p t (stateFor κ) f fill image some lf (is .bytes) (slotOf (p .sectors) f (sectorOf p a)) (slot-lt (p .sectors) f _ (sector-in p w a))
 
+  module _ (t : Track) (κ : Kind) (is : Shaped p u image t κ f) where
     track-anew : (κ ≡ stateless → ⊥) → ((v : Track) → κ ≡ moved v → Paired p (u .kind) (u .inter) t v (taken t))
         → ((v : Track) → κ ≡ taken v → Paired p (u .kind) (u .inter) t v (moved t))
-        → ((a : Lba) → trackOf p a ≡ t → isHeld κ ≡ true
+        → ((a : Lba) → OnDrive p a → trackOf p a ≡ t → isHeld κ ≡ true
         → slotData p (slotOf (p .sectors) f (sectorOf p a)) (trackBytes p (homeOf t κ) image) ≡ u .held a)
         → TrackMirrors p u image t
     track-anew stated moves takes kept = record {
-      formed = rw (is .kind, is .inter) forms;
+      formed = rw (is .kind, is .inter) (is .forms);
       inters = rw (is .inter) hf;
       stated = λ e. stated (sym (is .kind) ∙ e);
       moves = λ v e. moves v (sym (is .kind) ∙ e);
       takes = λ v e. takes v (sym (is .kind) ∙ e);
-      kept = λ a l at some. rw (is .kind, is .inter) (kept a at (ap isHeld (sym (is .kind)) ∙ some));
+      kept = λ a l at some. rw (is .kind, is .inter) (kept a l at (ap isHeld (sym (is .kind)) ∙ some));
     }
 
   module _ (t : Track) (fill : List ℕ) (lf : length fill ≡ p .size) where
     pub sound-anew : Anew p u image t sound f fill → ((a : Lba) → trackOf p a ≡ t → u .held a ≡ fill) → TrackMirrors p u image t
     unfolding homeOf
     sound-anew is held =
-        track-anew t sound fill lf is (λ e. apart (cc)) (λ v e. absurd (apart (cc))) (λ v e. absurd (apart (cc)))
-        (λ a at some. fills t sound fill lf is a ∙ sym (held a at))
+        track-anew t sound (shaped t sound fill lf is) (λ e. apart (cc)) (λ v e. absurd (apart (cc))) (λ v e. absurd (apart (cc)))
+        (λ a l at some. fills t sound fill lf is a ∙ sym (held a at))
 
     pub bad-anew : Anew p u image t bad f fill → TrackMirrors p u image t
     unfolding isHeld
     bad-anew is =
-        track-anew t bad fill lf is (λ e. apart (cc)) (λ v e. absurd (apart (cc))) (λ v e. absurd (apart (cc)))
-        (λ a at some. absurd (false≢true some))
+        track-anew t bad (shaped t bad fill lf is) (λ e. apart (cc)) (λ v e. absurd (apart (cc))) (λ v e. absurd (apart (cc)))
+        (λ a l at some. absurd (false≢true some))
 
   -- A moved to B, B taken by A; what A holds is in B
-  module _ (A B : Track) (plain fill : List ℕ) (hA : A .0 < trackCount p) (hB : B .0 < trackCount p)
-      (isA : Anew p u image A (moved B) f plain) (isB : Anew p u image B (taken A) f fill) where
+  module _ (A B : Track) (hA : A .0 < trackCount p) (hB : B .0 < trackCount p) (isA : Shaped p u image A (moved B) f) (isB : Shaped p u image B (taken A) f) where
     paired-A : (v : Track) → moved B ≡ moved v → Paired p (u .kind) (u .inter) A v (taken A)
     paired-A v e =
         let z : B ≡ v = cc in
@@ -170,17 +176,13 @@ module _ (p : Params) (w : Within p) (u : Disk) (image : List ℕ) (f : ℕ) (hf
         let z : A ≡ v = cc in
         rw (← z) (record { ours = hA; returned = isA .kind; inters = isA .inter ∙ sym (isB .inter) })
 
-    pub moved-anew : length plain ≡ p .size → length fill ≡ p .size → ((a : Lba) → trackOf p a ≡ A → u .held a ≡ fill) → TrackMirrors p u image A
+    pub moved-anew : ((a : Lba) → OnDrive p a → trackOf p a ≡ A → slotData p (slotOf (p .sectors) f (sectorOf p a)) (trackBytes p B image) ≡ u .held a) → TrackMirrors p u image A
     unfolding homeOf
-    moved-anew lp lf held =
-        track-anew A (moved B) plain lp isA (λ e. apart (cc)) paired-A (λ v e. absurd (apart (cc)))
-        (λ a at some. fills B (taken A) fill lf isB a ∙ sym (held a at))
+    moved-anew held = track-anew A (moved B) isA (λ e. apart (cc)) paired-A (λ v e. absurd (apart (cc))) (λ a l at some. held a l at)
 
-    pub taken-anew : length fill ≡ p .size → TrackMirrors p u image B
+    pub taken-anew : TrackMirrors p u image B
     unfolding isHeld
-    taken-anew lf =
-        track-anew B (taken A) fill lf isB (λ e. apart (cc)) (λ v e. absurd (apart (cc))) paired-B
-        (λ a at some. absurd (false≢true some))
+    taken-anew = track-anew B (taken A) isB (λ e. apart (cc)) (λ v e. absurd (apart (cc))) paired-B (λ a l at some. absurd (false≢true some))
 
 -- ---- The law: each track is made anew or kept, and a kept track's partner is kept
 module _ (p : Params) (w : Within p) (u u′ : Disk) (image image′ : List ℕ) (new : ℕ → Bool)

@@ -1,6 +1,6 @@
 -- Formats and assignments: the image made anew mirrors the machine made anew, and keeps the rest.
 use Prim.Native.Nat.{ℕ, _<_, _≤_}
-use mathlib.Core.Path.{_≡_, _∙_}
+use mathlib.Core.Path.{_≡_, sym, _∙_}
 use mathlib.Core.Bool.{false}
 use mathlib.Core.List.{List, _++_}
 use lib.ListN.{length}
@@ -13,9 +13,9 @@ use Rattle.geometry.proofs.Labels.{sixteen}
 use Rattle.track.specs.declared.state.State.the-variants.{Sound, Bad, Moved, Taken}
 use Rattle.model.specs.declared.block.Block.{Block}
 use Rattle.model.specs.Commands.{madeAt, plainFill, driveFormatted, assigned}
-use Rattle.model.specs.Machine.{Disk, sound, bad, moved, taken, becomes, filled, reformatted, someParted, isMoved, isTaken, assignTo}
+use Rattle.model.specs.Machine.{Disk, sound, bad, moved, taken, becomes, filled, reformatted, someParted, isMoved, isTaken, moving}
 use Rattle.model.proofs.claim.Mirrors.{stateFor, Mirrors, KeepsLabel}
-use Rattle.model.proofs.claim.Change.{sound-anew, bad-anew, moved-anew, taken-anew, mirrors-but}
+use Rattle.model.proofs.claim.Change.{shaped, fills, sound-anew, bad-anew, moved-anew, taken-anew, mirrors-but}
 use Rattle.model.proofs.claim.Making.{keeps-then, anew-then, label-then, filled-here, filled-keeps, filled-anew, made-label, made-anew, made-keeps, past-made}
 use Rattle.model.proofs.claim.Sweeping.{mirrors-swept}
 use Rattle.model.proofs.engine.Outside.{plain-length}
@@ -60,8 +60,8 @@ module _ (b : Block) (p : Params) (w : Within p) (hf : (0 < b .extra) × (b .ext
 
     pub assign-remade : (A B : Track) → A .0 < trackCount p → B .0 < trackCount p → (A .0 ≡ B .0 → ⊥)
         → isMoved (u .kind A) ≡ false → isTaken (u .kind A) ≡ false → isTaken (u .kind B) ≡ false → isMoved (u .kind B) ≡ false
-        → Remade p (assignTo p A B (b .extra) fill u) image (assigned b p A B fill image)
-    unfolding assignTo assigned stateFor filled
+        → Remade p (filled p A fill (moving A B (b .extra) u)) image (assigned b p A B fill image)
+    unfolding moving assigned stateFor filled
     assign-remade A B hA hB ne mA tA tB mB =
         let f = b .extra in
         let plain = plainFill (mediumOf (b .drive)) p in
@@ -74,14 +74,16 @@ module _ (b : Block) (p : Params) (w : Within p) (hf : (0 < b .extra) × (b .ext
         let fits₁ : imageLength p ≤ length image₁ = rw (label₁ .len) fits in
         let keeps₁ = made-keeps b p w A hA (moved B) plain (plain-length (mediumOf (b .drive)) p) image fits u in
         let keeps₂ = made-keeps b p w B hB (taken A) fill lf image₁ fits₁ u₁ in
+        let plain-sized = plain-length (mediumOf (b .drive)) p in
         let isA =
         filled-anew p A fill u₂ image₂ A (moved B) f plain
         (anew-then p u₁ u₂ image₁ image₂ A (moved B) f plain (made-anew b p w A hA (moved B) plain (plain-length (mediumOf (b .drive)) p) image fits u) (keeps₂ A hA ne)) in
         let isB = filled-anew p A fill u₂ image₂ B (taken A) f fill (made-anew b p w B hB (taken A) fill lf image₁ fits₁ u₁) in
         record {
           mirror = mirrors-but p w u u₃ image image₂ mirror A B mA tA mB tB
-              (moved-anew p w u₃ image₂ f hf A B plain fill hA hB isA isB (plain-length (mediumOf (b .drive)) p) lf (filled-here p A fill u₂))
-              (taken-anew p w u₃ image₂ f hf A B plain fill hA hB isA isB lf)
+              (moved-anew p w u₃ image₂ f hf A B hA hB (shaped p w u₃ image₂ f hf A (moved B) plain plain-sized isA) (shaped p w u₃ image₂ f hf B (taken A) fill lf isB)
+              (λ a l at. fills p w u₃ image₂ f hf B (taken A) fill lf isB a ∙ sym (filled-here p A fill u₂ a at)))
+              (taken-anew p w u₃ image₂ f hf A B hA hB (shaped p w u₃ image₂ f hf A (moved B) plain plain-sized isA) (shaped p w u₃ image₂ f hf B (taken A) fill lf isB))
               (λ v hv notA notB. keeps-then p u u₁ u₃ image image₁ image₂ v (keeps₁ v hv notA)
               (keeps-then p u₁ u₂ u₃ image₁ image₂ image₂ v (keeps₂ v hv notB) (filled-keeps p A fill u₂ image₂ v notA)))
               (λ v l. past-made p B (taken A) f u₁ hB v l ∙ past-made p A (moved B) f u hA v l);

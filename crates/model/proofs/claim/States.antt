@@ -1,7 +1,7 @@
 -- Where an image mirrors the machine, the commands' own checks go as the machine's do.
 use Prim.Native.Nat.{ℕ, zero, suc, _-_, _<_}
 use mathlib.Core.Path.{_≡_, refl, sym, ap, _∙_}
-use mathlib.Core.Bool.{Bool, true, false, not, _&&_, _||_}
+use mathlib.Core.Bool.{Bool, true, false, not, _&&_, _||_, true≢false}
 use mathlib.Core.Logic.{_⊎_, inl, inr}
 use mathlib.Core.Option.{Option, none, some}
 use mathlib.Core.List.{List, [], _∷_, _++_}
@@ -9,7 +9,7 @@ use native.Mathlib.Omega.{arith}
 use native.Mathlib.Decide.{decLt, ℕ-discrete}
 use native.Mathlib.Nat.{eq-or-lt-of-le, le-of-suc-le-suc}
 use lib.Dec.{eqb, ltb, leb}
-use borrow.Author.Tests.{eq-eqb, ne-eqb, lt-ltb, le-ltb}
+use borrow.Author.Tests.{eq-eqb, ne-eqb, le-ltb, le-leb}
 use Rattle.base.specs.Pick.{pick}
 use Rattle.base.specs.First.{firstBelow, someBelow}
 use Rattle.base.proofs.Bools.{leb-not}
@@ -24,9 +24,14 @@ use Rattle.interleave.specs.Layout.{layoutOf}
 use Rattle.track.specs.declared.state.State.{State}
 use Rattle.track.specs.declared.state.State.the-variants.{Sound, Bad, Moved, Taken}
 use Rattle.track.specs.Pair.{stateOf, oneBelow, splits, pairSplit}
-use Rattle.track.specs.State.{isBad as badState, isMoved as movedState, isTaken as takenState}
+use Rattle.track.specs.State.{isBad as badState, isMoved as movedState, isTaken as takenState, isTakenByOther as takenByOther}
 use Rattle.formatter.specs.Check.{checkCode}
+use Rattle.formatter.proofs.Formed.{where-bad}
 use Rattle.formatter.proofs.Laws.{state-formed, check-sound, check-moved, check-bad, check-taken}
+use Rattle.keeping.specs.Keep.{keepCode}
+use Rattle.keeping.proofs.Chosen.{sound-code, off-code}
+use Rattle.model.specs.declared.verdict.Verdict.{Verdict}
+use Rattle.model.specs.declared.verdict.Verdict.the-variants.{Faulty, Passed}
 use Rattle.model.specs.Checks.{Test, on, judged}
 use Rattle.model.specs.Commands.{checkTests, aloneTests, assignTests}
 use Rattle.model.specs.Machine.{Kind, stateless, sound, bad, moved, taken, isBad, isMoved, isTaken, denied, paired, parted, partedBy, someParted, unassignable}
@@ -127,11 +132,25 @@ eqb-turned a b = by (ℕ-discrete a b)
     by (yes e) = eq-eqb a b e ∙ sym (eq-eqb b a (sym e))
     by (no ne) = ne-eqb a b ne ∙ sym (ne-eqb b a (λ e. ne (sym e)))
 
--- an alternate past the last address settles it, whatever the state of its track
-assign-past : (p : Params) (first : ℕ) (a b : Lba) (stateA stateB stateC : State) → ltb (lastAddress p .0) (b .0) ≡ true
-    → judged (assignTests p first a b stateA stateB) ≡ judged (assignTests p first a b stateA stateC)
-unfolding judged assignTests pick
-assign-past p first a b stateA stateB stateC e = rw e
+-- taken by another than t, if not by t
+other-kind : (t : Track) (k : Kind) → (k ≡ taken t → ⊥) → takenByOther t (stateFor k) ≡ isTaken k
+unfolding takenByOther stateFor isTaken
+other-kind t stateless ne = refl
+other-kind t sound ne = refl
+other-kind t bad ne = refl
+other-kind t (moved u) ne = refl
+other-kind t (taken u) ne = ap not (ne-eqb (u .0) (t .0) (λ e. ne (ap taken (same-track u t e))))
+
+-- what is missing in A, where keep asks for it: nothing in a sound track, 19h in a bad one
+asked-sound : (keep : Bool) (a : Lba) → pick (not (eqb (pick keep 0 0) 0)) (Faulty (pick keep 0 0) a) Passed ≡ pick (keep && false) (Faulty 0x19 a) Passed
+unfolding pick
+asked-sound true a = refl
+asked-sound false a = refl
+
+asked-bad : (keep : Bool) (a : Lba) → pick (not (eqb (pick keep 0x19 0) 0)) (Faulty (pick keep 0x19 0) a) Passed ≡ pick (keep && true) (Faulty 0x19 a) Passed
+unfolding pick
+asked-bad true a = refl
+asked-bad false a = refl
 
 -- ---- Check Track's code, by the track's kind
 module _ (a : Lba) where
@@ -222,25 +241,66 @@ module _ (p : Params) (w : Within p) (kind : Track → Kind) (inter : Track → 
       let e : suc (addressCount p - 1) ≡ addressCount p = omega (arith, sectors-some p w) in
       ap (λ (n : ℕ). leb n b) e
 
-  assign-kinds : (first : ℕ) (a b : Lba)
-      → assignTests p first a b (stateFor (kind (trackOf p a))) (stateFor (kind (trackOf p b))) ≡ unassignable kind p first a b
-  unfolding assignTests unassignable
-  assign-kinds first a b =
-      let A = kind (trackOf p a) in
-      let B = kind (trackOf p b) in
-      rw (past-last (b .0), moved-kind A, taken-kind A, eqb-turned (trackOf p b .0) (trackOf p a .0), taken-kind B, moved-kind B, bad-kind B)
+  -- ---- Assign Alternate, by the kind of A
+  module _ (keep : Bool) (first : ℕ) (a b : Lba) where
+    abbrev A : Track
+    A = trackOf p a
 
-  pub assign-mirrored : (first : ℕ) (a b : Lba) → trackOf p a .0 < trackCount p
-      → judged (assignTests p first a b (stateOf p (trackOf p a) image) (stateOf p (trackOf p b) image)) ≡ judged (unassignable kind p first a b)
-  assign-mirrored first a b h = rw (state-mirrored (trackOf p a) h, ← assign-kinds first a b) (by (decLt (b .0) (addressCount p)))
-    where
-      A : State
-      A = stateFor (kind (trackOf p a))
+    abbrev B : Track
+    B = trackOf p b
 
-      B : State
-      B = stateFor (kind (trackOf p b))
+    -- the engine's tests, with what is missing in A; the machine's
+    abbrev engineSays : (stateA stateB : State) → (missing : ℕ) → Verdict
+    engineSays stateA stateB missing = judged (assignTests p first a b stateA stateB (pick keep missing 0))
 
-      by : Dec (OnDrive p b)
-          → judged (assignTests p first a b A (stateOf p (trackOf p b) image)) ≡ judged (assignTests p first a b A B)
-      by (yes l) = rw (state-mirrored (trackOf p b) (track-in p w b l))
-      by (no l) = assign-past p first a b A _ B (lt-ltb (lastAddress p .0) (b .0) (omega (arith, sectors-some p w)))
+    abbrev machineSays : Verdict
+    machineSays = judged (unassignable kind p keep first a b)
+
+    -- moved or taken: that is said before B is looked at
+    says-moved : (u : Track) (stateB : State) (missing : ℕ) → kind A ≡ moved u → engineSays (Moved u) stateB missing ≡ machineSays
+    unfolding judged assignTests unassignable movedState isMoved pick
+    says-moved u stateB missing e = rw (e, past-last (b .0))
+
+    says-taken : (u : Track) (stateB : State) (missing : ℕ) → kind A ≡ taken u → engineSays (Taken u) stateB missing ≡ machineSays
+    unfolding judged assignTests unassignable movedState takenState isMoved isTaken pick
+    says-taken u stateB missing e = rw (e, past-last (b .0))
+
+    -- B past the last address: that is said before the tracks are looked at
+    says-past : (stateA stateB : State) (missing : ℕ) → leb (addressCount p) (b .0) ≡ true → engineSays stateA stateB missing ≡ machineSays
+    unfolding judged assignTests unassignable pick
+    says-past stateA stateB missing e = rw (past-last (b .0), e)
+
+    -- sound or bad: B by its kind, which is not taken by A, since A is not moved; then what is missing in A
+    says-sound : kind A ≡ sound → (kind B ≡ taken A → ⊥) → engineSays Sound (stateFor (kind B)) 0 ≡ machineSays
+    unfolding judged assignTests unassignable movedState takenState isMoved isTaken isBad pick
+    says-sound e other =
+        rw (e, past-last (b .0), eqb-turned (B .0) (A .0), other-kind A (kind B) other, moved-kind (kind B), bad-kind (kind B), asked-sound keep a)
+
+    says-bad : kind A ≡ bad → (kind B ≡ taken A → ⊥) → engineSays Bad (stateFor (kind B)) 0x19 ≡ machineSays
+    unfolding judged assignTests unassignable movedState takenState isMoved isTaken isBad pick
+    says-bad e other =
+        rw (e, past-last (b .0), eqb-turned (B .0) (A .0), other-kind A (kind B) other, moved-kind (kind B), bad-kind (kind B), asked-bad keep a)
+
+    module _ (h : A .0 < trackCount p) where
+      -- A is not moved: B is not taken by it
+      not-by-first : (k : Kind) → kind A ≡ k → isMoved k ≡ false → B .0 < trackCount p → kind B ≡ taken A → ⊥
+      unfolding isMoved
+      not-by-first k e off hb taken-by = true≢false (sym (ap isMoved (sym e ∙ mirror .takes B A hb taken-by .returned)) ∙ off)
+
+      inside : B .0 < trackCount p → (k : Kind) → kind A ≡ k → engineSays (stateFor k) (stateFor (kind B)) (keepCode p A image) ≡ machineSays
+      unfolding stateFor isMoved
+      inside hb stateless e = absurd (mirror .stated A h e)
+      inside hb sound e =
+          rw (sound-code p A (inter A) image (omega (arith, w .sectors-some)) (sound-formed p kind inter held image mirror A h e)) (says-sound e (not-by-first sound e refl hb))
+      inside hb bad e =
+          let off = where-bad p A (inter A) image (omega (arith, w .sectors-some)) (bad-formed p kind inter held image mirror A h e) in
+          rw (off-code p A image 0x19 (omega (arith, w .sectors-some)) (omega arith) off) (says-bad e (not-by-first bad e refl hb))
+      inside hb (moved u) e = says-moved u _ _ e
+      inside hb (taken u) e = says-taken u _ _ e
+
+      pub assign-mirrored : judged (assignTests p first a b (stateOf p A image) (stateOf p B image) (pick keep (keepCode p A image) 0)) ≡ machineSays
+      assign-mirrored = by (decLt (b .0) (addressCount p))
+        where
+          by : Dec (OnDrive p b) → judged (assignTests p first a b (stateOf p A image) (stateOf p B image) (pick keep (keepCode p A image) 0)) ≡ machineSays
+          by (yes l) = let hb = track-in p w b l in rw (state-mirrored A h, state-mirrored B hb) (inside hb (kind A) refl)
+          by (no l) = says-past _ _ _ (le-leb (addressCount p) (b .0) (omega arith))

@@ -45,7 +45,8 @@ use Rattle.model.specs.Engine.{viewOf, obey}
 use Rattle.model.proofs.engine.Checked.{opcodeFor, row-of, Cleared, cleared, track-cleared, count-cleared}
 use Rattle.model.proofs.engine.Judged.{passed-on}
 use Rattle.model.proofs.engine.Outside.{Outside, outside-self, outside-less, plain-most, fill-most}
-use Rattle.model.proofs.engine.Outside.{made-outside, assigned-outside, drive-outside, drive-label}
+use Rattle.model.proofs.engine.Outside.{made-outside, alternated-outside, drive-outside, drive-label}
+use Rattle.model.proofs.engine.Assignable.{assignable, alternate-in, keepable, missing-kept}
 use Rattle.model.proofs.engine.Written.{writes}
 use Rattle.model.proofs.engine.Known.{setting-known}
 use Rattle.model.proofs.engine.Leaving.{read-image}
@@ -57,12 +58,6 @@ unfolding unlessNamed
 unless-left P (Refused number) drive entry keep after old new = old _
 unless-left P (Faulty code at) drive entry keep after old new = old _
 unless-left P Passed drive entry keep after old new = new refl
-
--- B out of range is 21h
-second-in : (p : Params) (first : ℕ) (a alternate : Lba) (stateA stateB : State)
-    → judged (assignTests p first a alternate stateA stateB) ≡ Passed → alternate .0 ≤ lastAddress p .0
-unfolding assignTests
-second-in p first a alternate stateA stateB e = let t = passed-on _ _ _ _ e in ltb-false _ _ (passed-on _ _ _ _ (t .1) .0)
 
 -- ---- A command whose checks have passed
 module _ (b : Block) (given : List ℕ) (area : ℕ) (entry : Drive) (buffer image : List ℕ)
@@ -132,10 +127,10 @@ module _ (b : Block) (given : List ℕ) (area : ℕ) (entry : Drive) (buffer ima
           (track-cleared (w p valid) (clear p valid (OnDisk (TrackWork FormatBadTrack)) is) refl refl) (plain-most medium p))
       track-outside AssignAlternate is =
           own _ _ (λ ok.
-          assigned-outside low front b p (w p valid) image (fits p valid) _ _ _
-          (track-cleared (w p valid) (clear p valid (OnDisk (TrackWork AssignAlternate)) is) refl refl)
-          (track-in p (w p valid) (alternateOf given) (omega (arith, sectors-some p (w p valid), second-in p _ _ (alternateOf given) _ _ ok)))
-          (fill-most b p buffer))
+          let r = assignable p _ (b .address) (alternateOf given) _ _ _ ok in
+          let here = track-cleared (w p valid) (clear p valid (OnDisk (TrackWork AssignAlternate)) is) refl refl in
+          alternated-outside low front b p (w p valid) image (fits p valid) _ _ buffer here (alternate-in p (w p valid) (b .address) (alternateOf given) image _ r)
+          (λ keep. keepable p (w p valid) (b .address) (alternateOf given) image _ r here (missing-kept b p _ image keep (r .none-missing))))
 
       sectors-outside : (command : SectorCommand) → rowFor (b .opcode) .command ≡ OnDisk (SectorWork command)
           → AfterIt (Valid p) (doSectors b p given entry buffer image command .image)

@@ -46,7 +46,7 @@ use Rattle.model.specs.Checks.{Test, on, refuses, judged, bytesOf, hitsO
 use Rattle.model.specs.Sense.{addressed, senseOf}
 use Rattle.model.specs.Record.{driveAt, blankDrive, sensed, refused, failed, good, unless, Effect, effect, Made, made, unlessNamed}
 use Rattle.model.specs.Commands.{pendingEnded, formatDrive, checkTests, checkTrack, aloneTests, formatTrack, transferEnding, transferred, read, write}
-use Rattle.model.specs.Commands.{assignTests, assignAlternate, initialized, initializedBy, initialize, doFree, doArm, doTrack, doSectors, asEffect, doDisk, carryOut}
+use Rattle.model.specs.Commands.{assignTests, missingIn, assignAlternate, initialized, initializedBy, initialize, doFree, doArm, doTrack, doSectors, asEffect, doDisk, carryOut}
 use Rattle.model.specs.Engine.{obey, Result, imageOf}
 
 -- ---- What becomes of the entry of the drive, by the status
@@ -310,7 +310,7 @@ module _ (b : Block) (given : List ℕ) (entry : Drive) (buffer image : List ℕ
         by-own FormatBadTrack _ (judged-by (faults some (faults some done)))
         (record { number = refl; bytes = refl; makes = cleared refl; fills = as-was refl; hands = nothing refl; writes = bad-format _ })
     track-ends AssignAlternate =
-        by-own AssignAlternate _ (judged-by (faults some (faults some (faults some (faults some (faults some (faults some (faults some done))))))))
+        by-own AssignAlternate _ (judged-by (faults some (faults some (faults some (faults some (faults some (faults some (faults some (faults {code = missingIn b p (trackOf p (b .address)) image} (not-zero _) done)))))))))
         (record { number = refl; bytes = refl; makes = cleared refl; fills = as-was refl; hands = nothing refl; writes = alternate _ })
 
     -- a transfer's end, whatever its code

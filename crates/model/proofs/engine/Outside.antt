@@ -2,10 +2,13 @@
 -- into an image between them leaves them.
 use Prim.Native.Nat.{ℕ, zero, suc, _+_, _-_, _≤_, _<_}
 use mathlib.Core.Path.{_≡_, refl, _∙_}
+use mathlib.Core.Bool.{Bool, true, false}
+use mathlib.Core.Logic.{inl, inr}
 use mathlib.Core.List.{List, _++_}
 use native.Mathlib.Omega.{arith}
 use native.Mathlib.Nat.{min-le-left}
 use lib.ListN.{length, take, length-take, length-replicate}
+use Rattle.base.specs.Pick.{pick}
 use Rattle.base.specs.Part.{part, splice}
 use Rattle.base.proofs.Decide.{pick-both}
 use Rattle.base.proofs.Parts.{length-splice, part-same, part-before, part-after, cell-in}
@@ -22,11 +25,15 @@ use Rattle.interleave.specs.Layout.{layoutOf}
 use Rattle.interleave.proofs.Layouts.{layout-length}
 use Rattle.track.specs.declared.state.State.{State}
 use Rattle.track.specs.declared.state.State.the-variants.{Sound, Moved, Taken}
-use Rattle.track.specs.Image.{withTrack}
+use Rattle.track.specs.Image.{Fits, withTrack}
 use Rattle.formatter.specs.Format.{formatted, soundFrom}
 use Rattle.formatter.proofs.Laws.{formatted-most}
+use Rattle.keeping.specs.Keep.{kept, Keepable}
+use Rattle.keeping.proofs.Outside.{same-length, same-beyond}
+use Rattle.keeping.proofs.Kept.{layout-maps, kept-late}
 use Rattle.model.specs.declared.block.Block.{Block}
-use Rattle.model.specs.Commands.{plainByte, plainFill, fillOf, madeAt, driveFormatted, assigned}
+use Rattle.model.specs.Block.{keeps}
+use Rattle.model.specs.Commands.{plainByte, plainFill, fillOf, madeAt, driveFormatted, assigned, alternated}
 
 -- The length, the first `low` bytes, and the bytes past the drive are as before; without parameters all bytes are.
 pub record Outside (low : ℕ) (s : Setting) (before after : List ℕ) : Type 0 where
@@ -112,12 +119,38 @@ module _ (low : ℕ) (front : low ≤ 16) (b : Block) (p : Params) (w : Within p
   made-outside image fits t state fill h l = formatted-outside low front p (layoutOf (p .sectors) (b .extra)) fill map-length l image fits t state h
 
   module _ (image : List ℕ) (fits : imageLength p ≤ length image) where
-    pub assigned-outside : (A B : Track) (fill : List ℕ) → A .0 < trackCount p → B .0 < trackCount p → length fill ≤ p .size
+    assigned-outside : (A B : Track) (fill : List ℕ) → A .0 < trackCount p → B .0 < trackCount p → length fill ≤ p .size
         → Outside low (Valid p) image (assigned b p A B fill image)
     unfolding assigned
     assigned-outside A B fill ha hb l =
         let one = made-outside image fits A (Moved B) (plainFill (mediumOf (b .drive)) p) ha (plain-most (mediumOf (b .drive)) p) in
         outside-then low (Valid p) image _ _ one (made-outside _ (rw (one .len) fits) B (Taken A) fill hb l)
+
+    -- a track moved with its contents
+    kept-outside : (A B : Track) → Keepable p A B image → Outside low (Valid p) image (kept p A B (layoutOf (p .sectors) (b .extra)) image)
+    kept-outside A B may =
+        let map = layoutOf (p .sectors) (b .extra) in
+        let fit : Fits p image = record { within = w; long = fits } in
+        let maps = layout-maps (p .sectors) (b .extra) (omega (arith, w .sectors-some)) in
+        let late = kept-late p A B map image fit maps may in
+        record {
+          len = same-length p A B map image fit maps may _ late;
+          below = λ at size h. same-beyond p A B map image fit maps may _ late at size (inl (omega arith));
+          past = λ q is at size h.
+              let same : p ≡ q = cc in
+              let past : imageLength p ≤ at = rw (← same) at h in same-beyond p A B map image fit maps may _ late at size (inr past);
+          all = λ is. absurd (let z : _≡_ {A = ℕ} 0 1 = cc in omega arith);
+        }
+
+    pub alternated-outside : (A B : Track) (buffer : List ℕ) → A .0 < trackCount p → B .0 < trackCount p → (keeps b ≡ true → Keepable p A B image)
+        → Outside low (Valid p) image (alternated b p A B buffer image)
+    unfolding alternated pick
+    alternated-outside A B buffer ha hb may = by (keeps b) refl
+      where
+        by : (k : Bool) → keeps b ≡ k
+            → Outside low (Valid p) image (pick k (kept p A B (layoutOf (p .sectors) (b .extra)) image) (assigned b p A B (fillOf b p buffer) image))
+        by true e = kept-outside A B (may e)
+        by false e = assigned-outside A B (fillOf b p buffer) ha hb (fill-most b p buffer)
 
     -- the tracks from the block's to the last, then the label
     module _ (config fill : List ℕ) (ten : length config ≡ 10) (l : length fill ≤ p .size) (h : trackOf p (b .address) .0 < trackCount p) where

@@ -26,7 +26,7 @@ use Rattle.track.specs.declared.find.Sector.the-variants.{Slot}
 use Rattle.track.specs.Find.{sectorFound}
 use Rattle.sectors.specs.Transfer.{found}
 use Rattle.contents.specs.Content.{Bytes, contentIn, contentOf}
-use Rattle.model.specs.Block.{blockOf, countOf, fromBuffer, isWhole, blockLength, isCopy}
+use Rattle.model.specs.Block.{blockOf, countOf, fromBuffer, keeps, isWhole, blockLength, isCopy}
 use Rattle.model.specs.Table.{checkNumber, isAmong, rowFor}
 use Rattle.model.specs.Checks.{judged, presentWith, isUnknown, blockWrong, controlWrong, withParams, interleaveWrong, pastEnd, notSpared, sizeIn, bytesOf, reachOf, hitsOf, inOrder, judge}
 use Rattle.model.specs.Sense.{addressed, senseOf}
@@ -37,7 +37,7 @@ use Rattle.model.specs.Machine.{well}
 use Rattle.model.specs.Machine.{isBad, isMoved, isTaken, denied, paired, parted, partedBy, someParted, addressGiven, unassignable}
 use Rattle.model.specs.Machine.{finished, withFirst, passing, readFrom, writeFrom, inARow, leaving, transferBy, transfer}
 use Rattle.model.specs.Machine.{fillingOn, filling, fromOn, reformatted}
-use Rattle.model.specs.Machine.{formatDrive, checkTrack, formatTrack, formatBadTrack, read, write, assignTo, assignAlternate, isStored, initializeBy}
+use Rattle.model.specs.Machine.{formatDrive, checkTrack, formatTrack, formatBadTrack, read, write, moving, assignTo, assignAlternate, isStored, initializeBy}
 use Rattle.model.specs.Machine.{freely, seeking, onTracks, onSectors, withParameters, carried, settingWith, seen, ordered, restored, step}
 use Rattle.model.specs.Claim.{replies, atEnd, Call, Reset, Command as Commanded, fed, engineReplies, engineAtEnd}
 use Rattle.model.specs.Claim.{begin, beginMachine, isHeld, Holds, Claim}
@@ -189,11 +189,11 @@ Kept u = (u .stored ≡ some (config 3))
 
 machine-keeps : Kept disk
 unfolding three at saving disk six config isHeld fed atEnd lengthsOf pick sameBytes mediumOf isFloppy isIn rangesOf sizeFor fittedTo fieldsIn
-    settingBy settingOf blockOf countOf fromBuffer rowFor presentWith judge judged inOrder hitsOf isUnknown blockWrong controlWrong withParams
+    settingBy settingOf blockOf countOf fromBuffer keeps rowFor presentWith judge judged inOrder hitsOf isUnknown blockWrong controlWrong withParams
     interleaveWrong pastEnd notSpared isValid reachOf sizeIn bytesOf isAmong checkNumber addressed senseOf freshDisk freshMachine changed withSense
     withBuffer withDisk inForce becomes filled storing failingOn well providingOn isBad isMoved isTaken denied paired parted partedBy someParted
     addressGiven unassignable finished withFirst passing readFrom writeFrom inARow leaving transferBy transfer fillingOn filling fromOn reformatted
-    formatDrive checkTrack formatTrack formatBadTrack read write assignTo assignAlternate isStored initializeBy freely seeking onTracks onSectors
+    formatDrive checkTrack formatTrack formatBadTrack read write moving assignTo assignAlternate isStored initializeBy freely seeking onTracks onSectors
     withParameters carried settingWith seen ordered restored step isWhole blockLength isCopy
 machine-keeps = (refl, refl, refl, refl, refl)
 

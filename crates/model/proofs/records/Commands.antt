@@ -1,7 +1,7 @@
 -- What each command that changes an image leaves of the contents at addresses that it does not name, in any image.
 use Prim.Native.Nat.{ℕ, _+_, _*_, _≤_, _<_}
 use mathlib.Core.Path.{_≡_, refl, sym, ap, _∙_}
-use mathlib.Core.Bool.{Bool, true, false, _&&_, _||_, true≢false}
+use mathlib.Core.Bool.{Bool, true, false, not, _&&_, _||_, true≢false}
 use mathlib.Core.Logic.{_⊎_, inl, inr}
 use mathlib.Core.List.{List, _++_}
 use native.Mathlib.Omega.{arith}
@@ -15,16 +15,13 @@ use Rattle.base.proofs.Decide.{pick-both}
 use Rattle.geometry.specs.declared.params.Lba.{Lba}
 use Rattle.geometry.specs.declared.params.Track.{Track}
 use Rattle.geometry.specs.declared.params.Params.{Params}
-use Rattle.geometry.specs.Params.{trackCount, trackOf, lastAddress, OnDrive, further}
+use Rattle.geometry.specs.Params.{trackCount, trackOf, OnDrive, further}
 use Rattle.geometry.specs.Medium.{mediumOf}
 use Rattle.geometry.specs.Config.{labelRest}
-use Rattle.geometry.proofs.Addresses.{track-in}
-use Rattle.geometry.proofs.Sizes.{sectors-some}
 use Rattle.geometry.proofs.Labels.{sixteen}
 use Rattle.interleave.specs.Layout.{layoutOf}
 use Rattle.interleave.proofs.Layouts.{layout-length}
 use Rattle.track.specs.declared.state.State.the-variants.{Sound, Bad}
-use Rattle.track.specs.State.{isTaken}
 use Rattle.track.specs.Image.{Fits}
 use Rattle.track.specs.Pair.{stateOf}
 use Rattle.sectors.specs.Transfer.{begun, writing}
@@ -36,15 +33,18 @@ use Rattle.model.specs.declared.record.Drive.{Drive}
 use Rattle.model.specs.declared.record.Ending.{Ending}
 use Rattle.model.specs.declared.verdict.Verdict.{Verdict}
 use Rattle.model.specs.declared.verdict.Verdict.the-variants.{Passed}
-use Rattle.model.specs.Block.{countOf, alternateOf}
-use Rattle.base.specs.Byte.{byte}
+use Rattle.keeping.specs.Keep.{kept}
+use Rattle.keeping.proofs.Kept.{layout-maps, kept-late}
+use Rattle.keeping.proofs.Power.{power}
+use Rattle.model.specs.Block.{countOf, keeps, alternateOf}
 use Rattle.model.specs.Checks.{judged}
 use Rattle.model.specs.Record.{failedAnswer, goodAnswer, good, failed, unless, Made, made}
 use Rattle.model.specs.Commands.{plainFill, fillOf, madeAt, driveFormatted, formatDrive, aloneTests, formatTrack, transferEnding, transferred, write}
-use Rattle.model.specs.Commands.{assignTests, assigned, assignAlternate}
+use Rattle.model.specs.Commands.{missingIn, assigned, alternated, assignAlternate}
 use Rattle.model.specs.Records.{isGood, oneTrack}
 use Rattle.model.proofs.engine.Judged.{passed-on}
 use Rattle.model.proofs.engine.Outside.{plain-most, fill-most}
+use Rattle.model.proofs.engine.Assignable.{Assignable, assignable, not-taken, alternate-in, first-free, second-free, keepable, missing-kept}
 use Rattle.model.proofs.engine.Beyond.{unless-left}
 
 -- ---- Good status
@@ -72,10 +72,6 @@ not-done a first done off = by (and-false (leb first a) (ltb a (first + done)) o
     by : (leb first a ≡ false) ⊎ (ltb a (first + done) ≡ false) → (a < first) ⊎ (first + done ≤ a)
     by (inl e) = inl (leb-false _ _ e)
     by (inr e) = inr (ltb-false _ _ e)
-
-not-taken : (p : Params) (t : Track) (image : List ℕ) → isTaken (stateOf p t image) ≡ false → NotTaken p t image
-unfolding isTaken
-not-taken p t image e u is = true≢false (sym (ap isTaken is) ∙ e)
 
 -- ---- A command on the track of its block's address, on the drive; the buffer may be of any length
 module _ (p : Params) (image : List ℕ) (f : Fits p image) (b : Block) (buffer : List ℕ) (entry : Drive)
@@ -143,38 +139,34 @@ module _ (p : Params) (image : List ℕ) (f : Fits p image) (b : Block) (buffer 
     abbrev other : Track
     other = trackOf p (alternateOf given)
 
-    -- what its checks have found: B on the drive, another track, neither taken
-    record Assignable : Type 0 where
-      on-drive : alternateOf given .0 ≤ lastAddress p .0
-      another : other .0 ≡ first .0 → ⊥
-      free : NotTaken p first image
-      other-free : NotTaken p other image
+    abbrev Found : Type 0
+    Found = Assignable p (b .address) (alternateOf given) (stateOf p first image) (stateOf p other image) (missingIn b p first image)
 
-    assignable : judged (assignTests p (byte given 0) (b .address) (alternateOf given) (stateOf p first image) (stateOf p other image)) ≡ Passed → Assignable
-    unfolding assignTests
-    assignable e =
-        let t₁ = passed-on _ _ _ _ e in
-        let t₂ = passed-on _ _ _ _ (t₁ .1) in
-        let t₃ = passed-on _ _ _ _ (t₂ .1) in
-        let t₄ = passed-on _ _ _ _ (t₃ .1) in
-        let t₅ = passed-on _ _ _ _ (t₄ .1) in
-        let t₆ = passed-on _ _ _ _ (t₅ .1) in
-        record {
-          on-drive = ltb-false _ _ (t₂ .0);
-          another = eqb-false _ _ (t₅ .0);
-          free = not-taken p first image (t₄ .0);
-          other-free = not-taken p other image (t₆ .0);
-        }
-
-    pub assign-alternate-other : Spared (oneTrack p a (b .address) || oneTrack p a (alternateOf given)) (assignAlternate b p buffer given entry image)
-    unfolding assignAlternate assigned madeAt
-    assign-alternate-other =
-        own _ _ _ _ (λ e off.
-        let r = assignable e in
+    -- without keep every address outside both tracks, with keep every one outside B
+    assigned-other : Found → (oneTrack p a (b .address) || oneTrack p a (alternateOf given)) ≡ false → contentOf p a (assigned b p first other fill image) ≡ contentOf p a image
+    unfolding assigned madeAt
+    assigned-other r off =
         let both = or-off (oneTrack p a (b .address)) (oneTrack p a (alternateOf given)) off in
         assign-elsewhere p image f a ha map fill fill-makes plain plain-makes first other here
-        (track-in p (f .within) (alternateOf given) (omega (arith, r .on-drive, sectors-some p (f .within)))) (r .another) (r .free) (r .other-free)
-        (other-track p a (b .address) (both .0)) (other-track p a (alternateOf given) (both .1)))
+        (alternate-in p (f .within) (b .address) (alternateOf given) image _ r) (r .another)
+        (first-free p (f .within) (b .address) (alternateOf given) image _ r) (second-free p (f .within) (b .address) (alternateOf given) image _ r)
+        (other-track p a (b .address) (both .0)) (other-track p a (alternateOf given) (both .1))
+
+    kept-other : Found → keeps b ≡ true → oneTrack p a (alternateOf given) ≡ false → contentOf p a (kept p first other map image) ≡ contentOf p a image
+    kept-other r keep off =
+        let may = keepable p (f .within) (b .address) (alternateOf given) image _ r here (missing-kept b p first image keep (r .none-missing)) in
+        let maps = layout-maps (p .sectors) (b .extra) (omega (arith, f .within .sectors-some)) in
+        power p first other map image f maps may _ (kept-late p first other map image f maps may) a ha (other-track p a (alternateOf given) off)
+
+    alternated-other : Found → (k : Bool) → keeps b ≡ k → ((not k && oneTrack p a (b .address)) || oneTrack p a (alternateOf given)) ≡ false
+        → contentOf p a (pick k (kept p first other map image) (assigned b p first other fill image)) ≡ contentOf p a image
+    unfolding pick
+    alternated-other r true keep off = kept-other r keep off
+    alternated-other r false keep off = assigned-other r off
+
+    pub assign-alternate-other : Spared ((not (keeps b) && oneTrack p a (b .address)) || oneTrack p a (alternateOf given)) (assignAlternate b p buffer given entry image)
+    unfolding assignAlternate alternated
+    assign-alternate-other = own _ _ _ _ (λ e off. alternated-other (assignable p _ (b .address) (alternateOf given) _ _ _ e) (keeps b) refl off)
 
 -- ---- 0Ah Write: the sectors counted are those done
 module _ (p : Params) (image : List ℕ) (f : Fits p image) (b : Block) (given : List ℕ) (g : Given p (countOf b) (b .address) given) (entry : Drive) (buffer : List ℕ) where

@@ -30,7 +30,7 @@ use Rattle.model.specs.declared.verdict.Verdict.the-variants.{Refused, F
 use Rattle.model.specs.Block.{blockOf, fromBuffer}
 use Rattle.model.specs.Table.{table, unknown, rowFor}
 use Rattle.model.specs.Record.{unless, unlessNamed, Effect, effect, Made}
-use Rattle.model.specs.Commands.{fillOf, formatDrive, assignAlternate, transferred, read, write, doFree, doTrack, doSectors, asEffect, doDisk, carryOut}
+use Rattle.model.specs.Commands.{fillOf, formatDrive, alternated, assignAlternate, transferred, read, write, doFree, doTrack, doSectors, asEffect, doDisk, carryOut}
 use Rattle.model.specs.Engine.{viewOf, obey}
 use Rattle.model.specs.Separation.{usesBuffer}
 use Rattle.model.proofs.engine.Rows.{none, also, each-row}
@@ -106,7 +106,7 @@ module _ (b : Block) (given : List ℕ) (entry : Drive) (x y image : List ℕ) w
 
   module _ (p : Params) where
     track-same : (command : TrackCommand) → trackUses bit command ≡ false → doTrack b p x given entry image command ≡ doTrack b p y given entry image command
-    unfolding doTrack trackUses formatDrive assignAlternate
+    unfolding doTrack trackUses formatDrive assignAlternate alternated
     track-same FormatDrive off = rw (fill-same off p) refl
     track-same CheckTrack off = refl
     track-same FormatTrack off = rw (fill-same off p) refl

@@ -1,0 +1,104 @@
+-- What Assign Alternate's own checks have found where all of them pass; and that A can be moved with its contents then, if that is asked.
+use Prim.Native.Nat.{ℕ, _≤_, _<_}
+use mathlib.Core.Path.{_≡_, refl, sym, ap, _∙_}
+use mathlib.Core.Logic.{_⊎_, inl, inr}
+use mathlib.Core.Bool.{true, false, _||_, true≢false}
+use mathlib.Core.List.{List}
+use native.Mathlib.Omega.{arith}
+use borrow.Author.Tests.{eqb-true, eqb-false, ltb-false}
+use Rattle.base.specs.Pick.{pick}
+use Rattle.base.proofs.Bools.{or-off, not-false}
+use Rattle.base.proofs.Decide.{pick-true}
+use Rattle.geometry.specs.declared.params.Lba.{Lba}
+use Rattle.geometry.specs.declared.params.Track.{Track}
+use Rattle.geometry.specs.declared.params.Params.{Params}
+use Rattle.geometry.specs.Params.{Within, trackCount, trackOf, lastAddress}
+use Rattle.geometry.proofs.Addresses.{same-track, track-in}
+use Rattle.geometry.proofs.Sizes.{sectors-some}
+use Rattle.track.specs.declared.state.State.{State}
+use Rattle.track.specs.declared.state.State.the-variants.{Sound, Bad, Moved, Taken}
+use Rattle.track.specs.State.{isBad, isMoved, isTaken, isTakenByOther}
+use Rattle.track.specs.Pair.{stateOf}
+use Rattle.contents.proofs.Laws.{NotTaken, FreeFor}
+use Rattle.keeping.specs.Keep.{keepCode, Keepable}
+use Rattle.keeping.proofs.Chosen.{may-keep}
+use Rattle.model.specs.declared.block.Block.{Block}
+use Rattle.model.specs.declared.verdict.Verdict.the-variants.{Passed}
+use Rattle.model.specs.Block.{keeps, alternateOf}
+use Rattle.model.specs.Checks.{judged}
+use Rattle.model.specs.Commands.{assignTests, missingIn}
+use Rattle.model.proofs.engine.Judged.{passed-on}
+
+pub record Assignable (p : Params) (a alternate : Lba) (stateA stateB : State) (missing : ℕ) : Type 0 where
+  pub on-drive : alternate .0 ≤ lastAddress p .0
+  pub unmoved : isMoved stateA ≡ false
+  pub untaken : isTaken stateA ≡ false
+  pub another : trackOf p alternate .0 ≡ trackOf p a .0 → ⊥
+  pub free : isTakenByOther (trackOf p a) stateB ≡ false
+  pub fit : (isMoved stateB ≡ false) × (isBad stateB ≡ false)
+  pub none-missing : missing ≡ 0
+
+pub assignable : (p : Params) (first : ℕ) (a alternate : Lba) (stateA stateB : State) (missing : ℕ)
+    → judged (assignTests p first a alternate stateA stateB missing) ≡ Passed → Assignable p a alternate stateA stateB missing
+unfolding assignTests
+assignable p first a alternate stateA stateB missing e =
+    let t₁ = passed-on _ _ _ _ e in
+    let t₂ = passed-on _ _ _ _ (t₁ .1) in
+    let t₃ = passed-on _ _ _ _ (t₂ .1) in
+    let t₄ = passed-on _ _ _ _ (t₃ .1) in
+    let t₅ = passed-on _ _ _ _ (t₄ .1) in
+    let t₆ = passed-on _ _ _ _ (t₅ .1) in
+    let t₇ = passed-on _ _ _ _ (t₆ .1) in
+    let t₈ = passed-on _ _ _ _ (t₇ .1) in
+    record {
+      on-drive = ltb-false _ _ (t₂ .0);
+      unmoved = t₃ .0;
+      untaken = t₄ .0;
+      another = eqb-false _ _ (t₅ .0);
+      free = t₆ .0;
+      fit = or-off _ _ (t₇ .0);
+      none-missing = eqb-true _ _ (not-false _ (t₈ .0));
+    }
+
+-- ---- a state by what it is not
+pub not-taken : (p : Params) (t : Track) (image : List ℕ) → isTaken (stateOf p t image) ≡ false → NotTaken p t image
+unfolding isTaken
+not-taken p t image e u is = true≢false (sym (ap isTaken is) ∙ e)
+
+unmoved-state : (state : State) (u : Track) → isMoved state ≡ false → state ≡ Moved u → ⊥
+unfolding isMoved
+unmoved-state state u off e = true≢false (sym (ap isMoved e) ∙ off)
+
+other-state : (t : Track) (state : State) (u : Track) → isTakenByOther t state ≡ false → state ≡ Taken u → u .0 ≡ t .0
+unfolding isTakenByOther
+other-state t state u off e = eqb-true _ _ (not-false _ (sym (ap (isTakenByOther t) e) ∙ off))
+
+free-state : (t : Track) (state : State) → isTakenByOther t state ≡ false → isMoved state ≡ false → isBad state ≡ false → (state ≡ Sound) ⊎ (state ≡ Taken t)
+unfolding isMoved isBad
+free-state t Sound off m b = inl refl
+free-state t Bad off m b = absurd (true≢false b)
+free-state t (Moved u) off m b = absurd (true≢false m)
+free-state t (Taken u) off m b = inr (ap Taken (same-track u t (other-state t (Taken u) u off refl)))
+
+-- ---- of the tracks of an image
+module _ (p : Params) (w : Within p) (a alternate : Lba) (image : List ℕ) (missing : ℕ)
+    (r : Assignable p a alternate (stateOf p (trackOf p a) image) (stateOf p (trackOf p alternate) image) missing) where
+  pub alternate-in : trackOf p alternate .0 < trackCount p
+  alternate-in = track-in p w alternate (omega (arith, r .on-drive, sectors-some p w))
+
+  pub first-free : NotTaken p (trackOf p a) image
+  first-free = not-taken p (trackOf p a) image (r .untaken)
+
+  pub second-free : FreeFor p (trackOf p a) (trackOf p alternate) image
+  second-free u e = other-state (trackOf p a) _ u (r .free) e
+
+  -- nothing is missing in A: it can be moved with its contents
+  pub keepable : trackOf p a .0 < trackCount p → keepCode p (trackOf p a) image ≡ 0 → Keepable p (trackOf p a) (trackOf p alternate) image
+  keepable h code =
+      may-keep p (trackOf p a) (trackOf p alternate) image (omega (arith, w .sectors-some)) h alternate-in (λ e. r .another (sym e))
+      (free-state (trackOf p a) _ (r .free) (r .fit .0) (r .fit .1)) (λ u e. unmoved-state _ u (r .unmoved) e) code
+
+-- with keep the code asked for is A's
+pub missing-kept : (b : Block) (p : Params) (A : Track) (image : List ℕ) → keeps b ≡ true → missingIn b p A image ≡ 0 → keepCode p A image ≡ 0
+unfolding missingIn
+missing-kept b p A image k e = sym (pick-true _ _ _ k) ∙ e
