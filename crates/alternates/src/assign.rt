@@ -1,6 +1,8 @@
 // Assign Alternate.
 use base::logic::either;
 use checks::block::alternate_of;
+use checks::block::keeps_contents;
+use crate::keep::assign_kept;
 use endings::ending::failed;
 use endings::ending::good;
 use endings::ending::refused;
@@ -20,6 +22,7 @@ use track::state::State;
 use track::state::is_bad;
 use track::state::is_moved;
 use track::state::is_taken;
+use track::state::is_taken_by_other;
 ghost use mathlib.Core.Path.{_≡_};
 ghost use mathlib.Core.List.{[], _∷_};
 ghost use Prim.Native.Nat.{_≤_, _<_};
@@ -28,8 +31,8 @@ ghost use Rattle.geometry.specs.Params.{trackCount, trackOf};
 ghost use Rattle.track.specs.Image.{Fits};
 ghost use Rattle.track.specs.Pair.{stateOf};
 ghost use Rattle.model.specs.Checks.{on, judged};
-ghost use Rattle.model.specs.Record.{made};
-ghost use Rattle.model.specs.Commands.{assignTests, assigned, assignAlternate};
+ghost use Rattle.model.specs.Record.{made, good as goodEnding};
+ghost use Rattle.model.specs.Commands.{fillOf, assignTests, assigned, assignAlternate};
 ghost use Rattle.model.specs.Premises.{OnTrack};
 
 // The faults of a pair of tracks, in document 01's order.
@@ -63,11 +66,11 @@ fn pair_faults(
     Verdict::Passed
 }
 
-// Assign Alternate's own checks.
+// Assign Alternate's own checks, up to what is missing in A.
 fn assign_faults(image: &[u8], p: Params, first: u8, a: Lba, alternate: Lba) -> Verdict
     requires { ⌜ Fits p (now image) × (trackOf p a .0 < trackCount p) ⌝ }
     ensures { λ r. ⌜ r ≡ judged (assignTests p first a alternate
-        (stateOf p (trackOf p a) (now (image .entry))) (stateOf p (trackOf p alternate) (now (image .entry)))) ⌝ }
+        (stateOf p (trackOf p a) (now (image .entry))) (stateOf p (trackOf p alternate) (now (image .entry))) 0) ⌝ }
 {
     if 0x1F < first {
         return Verdict::Faulty(0x22, a);
@@ -86,7 +89,7 @@ fn assign_faults(image: &[u8], p: Params, first: u8, a: Lba, alternate: Lba) -> 
         is_moved(one),
         is_taken(one),
         to.is_same(from),
-        is_taken(other),
+        is_taken_by_other(from, other),
         either(is_moved(other), is_bad(other)),
     )
 }
@@ -102,6 +105,25 @@ fn make_pair(image: &mut [u8], b: Block, p: Params, from: Track, to: Track, fill
     make_at(image, b, p, to, State::Taken(from), fill);
 }
 
+// Both formatted; the buffer's fill reaches B only.
+fn assign_formatted(
+    entry: Drive,
+    b: Block,
+    p: Params,
+    buffer: &[u8],
+    to: Track,
+    image: &mut [u8],
+) -> Ending
+    requires { ⌜ OnTrack b p (now image) × (to .0 < trackCount p) × (length (now buffer) ≡ 512) ⌝ }
+    ensures { λ r. ⌜ made r (now (image .exit)) ≡ made (goodEnding (b .drive) 0 0 entry)
+        (assigned b p (trackOf p (b .address)) to (fillOf b p (now (buffer .entry))) (now (image .entry))) ⌝ }
+{
+    let size = p.size;
+    let fill = fill_of(b, p, buffer);
+    make_pair(image, b, p, p.track_of(b.address), to, &fill[0..size]);
+    good(entry, b.drive, 0, 0)
+}
+
 pub fn assign_alternate(
     entry: Drive,
     b: Block,
@@ -114,24 +136,16 @@ pub fn assign_alternate(
     ensures { λ r. ⌜ made r (now (image .exit)) ≡ assignAlternate b p (now (buffer .entry)) (now (given .entry)) entry (now (image .entry)) ⌝ }
 {
     let drive = b.drive;
-    let at = b.address;
     let alternate = alternate_of(given);
-    let verdict = assign_faults(image, p, given[0], at, alternate);
+    let verdict = assign_faults(image, p, given[0], b.address, alternate);
     match verdict {
         Verdict::Refused(number) => refused(entry, number),
         Verdict::Faulty(code, place) => failed(entry, drive, drive, code, place, 0, 0),
         Verdict::Passed => {
-            let size = p.size;
-            let fill = fill_of(b, p, buffer);
-            make_pair(
-                image,
-                b,
-                p,
-                p.track_of(at),
-                p.track_of(alternate),
-                &fill[0..size],
-            );
-            good(entry, drive, 0, 0)
+            if keeps_contents(b) {
+                return assign_kept(entry, b, p, given, image);
+            }
+            assign_formatted(entry, b, p, buffer, p.track_of(alternate), image)
         }
     }
 }

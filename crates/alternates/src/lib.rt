@@ -1,2 +1,3 @@
 // Assign Alternate.
 pub mod assign;
+pub mod keep;

@@ -6,7 +6,7 @@ ghost use mathlib.Core.Path.{_≡_};
 ghost use mathlib.Core.List.{[], _∷_};
 ghost use Prim.Native.Nat.{_≤_};
 ghost use lib.ListN.{length};
-ghost use Rattle.model.specs.Block.{blockOf, isCopy, blockLength, isWhole, copyOf, countOf, fromBuffer, alternateOf};
+ghost use Rattle.model.specs.Block.{blockOf, isCopy, blockLength, isWhole, copyOf, countOf, fromBuffer, keeps, alternateOf};
 
 // Whether it begins with 20h.
 pub fn is_copy(bytes: &[u8]) -> bool
@@ -81,6 +81,13 @@ pub fn from_buffer(b: Block) -> bool
     ensures { λ r. ⌜ r ≡ fromBuffer b ⌝ }
 {
     b.control / 32 % 2 == 1
+}
+
+// Whether the contents are kept.
+pub fn keeps_contents(b: Block) -> bool
+    ensures { λ r. ⌜ r ≡ keeps b ⌝ }
+{
+    b.control / 16 % 2 == 1
 }
 
 // The address in the three bytes given to Assign Alternate.

@@ -16,6 +16,7 @@ use table::rows::ADDRESS;
 use table::rows::CONTROL;
 use table::rows::COUNTED;
 use table::rows::FILL_BIT;
+use table::rows::KEEP_BIT;
 use table::rows::HARD_ONLY;
 use table::rows::INTERLEAVE;
 use table::rows::PARAMETERS;
@@ -45,16 +46,19 @@ fn is_unknown(command: Command) -> bool
     }
 }
 
-// A control bit that is not defined.
-pub fn control_wrong(named: bool, control: u8) -> bool
-    ensures { λ r. ⌜ r ≡ controlWrong «named» control ⌝ }
+// A control bit that is not defined, by whether bits 5 and 4 are; both at once never are.
+pub fn control_wrong(fill: bool, keep: bool, control: u8) -> bool
+    ensures { λ r. ⌜ r ≡ controlWrong «fill» «keep» control ⌝ }
 {
     let low = control % 128;
     if low == 0 {
         return false;
     }
     if low == 32 {
-        return !named;
+        return !fill;
+    }
+    if low == 16 {
+        return !keep;
     }
     true
 }
@@ -67,7 +71,7 @@ fn block_wrong(row: Row, b: Block, view: View) -> bool
     let checks = row.checks;
     let medium = view.medium;
     let lacked = both(has(checks, HARD_ONLY), is_floppy(medium));
-    let wrong = control_wrong(has(checks, FILL_BIT), b.control);
+    let wrong = control_wrong(has(checks, FILL_BIT), has(checks, KEEP_BIT), b.control);
     either(b.top, either(lacked, both(has(checks, CONTROL), wrong)))
 }
 

@@ -80,7 +80,7 @@ fn copy_hits(b: Block, reach: usize, view: View) -> Hits
     let valid = is_valid(setting);
     Hits {
         unknown: false,
-        wrong: either(b.top, control_wrong(false, b.control)),
+        wrong: either(b.top, control_wrong(false, false, b.control)),
         absent: !view.present,
         unset: !valid,
         interleave: false,

@@ -12,4 +12,7 @@ pub mod Kept
 pub mod Again
 pub mod Power
 pub mod Missing
+pub mod Notes
 pub mod Chosen
+pub mod Stores
+pub mod Stepping

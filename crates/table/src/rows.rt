@@ -33,6 +33,8 @@ pub const COUNTED: u16 = 128;
 pub const SETTLED: u16 = 256;
 // but not from track 0 on
 pub const SPARED_WHOLE: u16 = 512;
+// control bit 4 is defined
+pub const KEEP_BIT: u16 = 1024;
 
 const ON_DRIVE: u16 = PRESENT + PARAMETERS;
 
@@ -119,7 +121,7 @@ const TABLE: [Row; 18] = [
     UNKNOWN,
     Row {
         command: Command::OnDisk(DiskCommand::TrackWork(TrackCommand::AssignAlternate)),
-        checks: AT_ADDRESS + FILL_BIT + INTERLEAVE + HARD_ONLY,
+        checks: AT_ADDRESS + FILL_BIT + KEEP_BIT + INTERLEAVE + HARD_ONLY,
         takes: Data::Alternate,
         gives: Data::Nothing,
     },

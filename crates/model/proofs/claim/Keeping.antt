@@ -138,12 +138,12 @@ module _ (p : Params) (w : Within p) (f : ℕ) (hf : (0 < f) × (f < p .sectors)
       }
 
 -- ---- sound tracks of the machine can be moved so
-pub sound-keepable : (p : Params) (w : Within p) (kind : Track → Kind) (inter : Track → ℕ) (held : Lba → List ℕ) (image : List ℕ) → Mirrors p kind inter held image
+pub sound-keepable : (p : Params) (w : Within p) (kind : Track → Kind) (inter : Track → ℕ) (held : Lba → List ℕ) (image : List ℕ) → imageLength p ≤ length image → Mirrors p kind inter held image
     → (A B : Track) → A .0 < trackCount p → B .0 < trackCount p → (A .0 ≡ B .0 → ⊥) → kind A ≡ sound → kind B ≡ sound → Keepable p A B image
 unfolding stateFor
-sound-keepable p w kind inter held image mirror A B hA hB ne eA eB =
+sound-keepable p w kind inter held image fits mirror A B hA hB ne eA eB =
     let some : 0 < p .sectors = omega (arith, w .sectors-some) in
     let state : (t : Track) → t .0 < trackCount p → kind t ≡ sound → stateOf p t image ≡ Sound =
     λ t h e. state-mirrored p w kind inter held image mirror t h ∙ ap stateFor e in
-    may-keep p A B image some hA hB ne (inl (state B hB eB)) (λ u e. sound-moved u (sym (state A hA eA) ∙ e))
+    may-keep p A B image (record { within = w; long = fits }) hA hB ne (inl (state B hB eB)) (λ u e. sound-moved u (sym (state A hA eA) ∙ e))
     (sound-code p A (inter A) image some (sound-formed p kind inter held image mirror A hA eA))

@@ -191,7 +191,7 @@ module _ (b : Block) (area : List ℕ) (entry : Drive) (buffer image : List ℕ)
           let whole = only-sound (u .kind A) (mirror .stated A ours) (free .badA) (free .movedA) (free .takenA) in
           let other = only-sound (u .kind B) (mirror .stated B hB) (free .badB) (free .movedB) (free .takenB) in
           remade-follows (moving A B (b .extra) u) _ (moving-only A B (b .extra) u)
-          (keep-remade p w (b .extra) inter u image (force .fits) mirror A B (sound-keepable p w (u .kind) (u .inter) (u .held) image mirror A B ours hB (free .apart) whole other)
+          (keep-remade p w (b .extra) inter u image (force .fits) mirror A B (sound-keepable p w (u .kind) (u .inter) (u .held) image (force .fits) mirror A B ours hB (free .apart) whole other)
           (free .movedA) (free .takenA) (free .movedB) (free .takenB) whole)
 
       assigned-follows : Assignable (u .kind) p false (b .address) (alternateOf given) → Follows (b .drive) area image m

@@ -29,7 +29,8 @@ use Rattle.formatter.specs.Check.{checkCode}
 use Rattle.formatter.proofs.Formed.{where-bad}
 use Rattle.formatter.proofs.Laws.{state-formed, check-sound, check-moved, check-bad, check-taken}
 use Rattle.keeping.specs.Keep.{keepCode}
-use Rattle.keeping.proofs.Chosen.{sound-code, off-code}
+use Rattle.keeping.proofs.Chosen.{sound-code}
+use Rattle.keeping.proofs.Missing.{missing-off}
 use Rattle.model.specs.declared.verdict.Verdict.{Verdict}
 use Rattle.model.specs.declared.verdict.Verdict.the-variants.{Faulty, Passed}
 use Rattle.model.specs.Checks.{Test, on, judged}
@@ -294,7 +295,7 @@ module _ (p : Params) (w : Within p) (kind : Track → Kind) (inter : Track → 
           rw (sound-code p A (inter A) image (omega (arith, w .sectors-some)) (sound-formed p kind inter held image mirror A h e)) (says-sound e (not-by-first sound e refl hb))
       inside hb bad e =
           let off = where-bad p A (inter A) image (omega (arith, w .sectors-some)) (bad-formed p kind inter held image mirror A h e) in
-          rw (off-code p A image 0x19 (omega (arith, w .sectors-some)) (omega arith) off) (says-bad e (not-by-first bad e refl hb))
+          rw (missing-off p A image 0x19 off w) (says-bad e (not-by-first bad e refl hb))
       inside hb (moved u) e = says-moved u _ _ e
       inside hb (taken u) e = says-taken u _ _ e
 

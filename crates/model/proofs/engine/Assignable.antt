@@ -12,12 +12,13 @@ use Rattle.base.proofs.Decide.{pick-true}
 use Rattle.geometry.specs.declared.params.Lba.{Lba}
 use Rattle.geometry.specs.declared.params.Track.{Track}
 use Rattle.geometry.specs.declared.params.Params.{Params}
-use Rattle.geometry.specs.Params.{Within, trackCount, trackOf, lastAddress}
+use Rattle.geometry.specs.Params.{trackCount, trackOf, lastAddress}
 use Rattle.geometry.proofs.Addresses.{same-track, track-in}
 use Rattle.geometry.proofs.Sizes.{sectors-some}
 use Rattle.track.specs.declared.state.State.{State}
 use Rattle.track.specs.declared.state.State.the-variants.{Sound, Bad, Moved, Taken}
 use Rattle.track.specs.State.{isBad, isMoved, isTaken, isTakenByOther}
+use Rattle.track.specs.Image.{Fits}
 use Rattle.track.specs.Pair.{stateOf}
 use Rattle.contents.proofs.Laws.{NotTaken, FreeFor}
 use Rattle.keeping.specs.Keep.{keepCode, Keepable}
@@ -35,7 +36,7 @@ pub record Assignable (p : Params) (a alternate : Lba) (stateA stateB : State) (
   pub untaken : isTaken stateA ≡ false
   pub another : trackOf p alternate .0 ≡ trackOf p a .0 → ⊥
   pub free : isTakenByOther (trackOf p a) stateB ≡ false
-  pub fit : (isMoved stateB ≡ false) × (isBad stateB ≡ false)
+  pub fitting : (isMoved stateB ≡ false) × (isBad stateB ≡ false)
   pub none-missing : missing ≡ 0
 
 pub assignable : (p : Params) (first : ℕ) (a alternate : Lba) (stateA stateB : State) (missing : ℕ)
@@ -56,7 +57,7 @@ assignable p first a alternate stateA stateB missing e =
       untaken = t₄ .0;
       another = eqb-false _ _ (t₅ .0);
       free = t₆ .0;
-      fit = or-off _ _ (t₇ .0);
+      fitting = or-off _ _ (t₇ .0);
       none-missing = eqb-true _ _ (not-false _ (t₈ .0));
     }
 
@@ -81,10 +82,10 @@ free-state t (Moved u) off m b = absurd (true≢false m)
 free-state t (Taken u) off m b = inr (ap Taken (same-track u t (other-state t (Taken u) u off refl)))
 
 -- ---- of the tracks of an image
-module _ (p : Params) (w : Within p) (a alternate : Lba) (image : List ℕ) (missing : ℕ)
+module _ (p : Params) (image : List ℕ) (fit : Fits p image) (a alternate : Lba) (missing : ℕ)
     (r : Assignable p a alternate (stateOf p (trackOf p a) image) (stateOf p (trackOf p alternate) image) missing) where
   pub alternate-in : trackOf p alternate .0 < trackCount p
-  alternate-in = track-in p w alternate (omega (arith, r .on-drive, sectors-some p w))
+  alternate-in = track-in p (fit .within) alternate (omega (arith, r .on-drive, sectors-some p (fit .within)))
 
   pub first-free : NotTaken p (trackOf p a) image
   first-free = not-taken p (trackOf p a) image (r .untaken)
@@ -95,8 +96,8 @@ module _ (p : Params) (w : Within p) (a alternate : Lba) (image : List ℕ) (mis
   -- nothing is missing in A: it can be moved with its contents
   pub keepable : trackOf p a .0 < trackCount p → keepCode p (trackOf p a) image ≡ 0 → Keepable p (trackOf p a) (trackOf p alternate) image
   keepable h code =
-      may-keep p (trackOf p a) (trackOf p alternate) image (omega (arith, w .sectors-some)) h alternate-in (λ e. r .another (sym e))
-      (free-state (trackOf p a) _ (r .free) (r .fit .0) (r .fit .1)) (λ u e. unmoved-state _ u (r .unmoved) e) code
+      may-keep p (trackOf p a) (trackOf p alternate) image fit h alternate-in (λ e. r .another (sym e))
+      (free-state (trackOf p a) _ (r .free) (r .fitting .0) (r .fitting .1)) (λ u e. unmoved-state _ u (r .unmoved) e) code
 
 -- with keep the code asked for is A's
 pub missing-kept : (b : Block) (p : Params) (A : Track) (image : List ℕ) → keeps b ≡ true → missingIn b p A image ≡ 0 → keepCode p A image ≡ 0

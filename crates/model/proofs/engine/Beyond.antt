@@ -18,7 +18,7 @@ use Rattle.geometry.specs.Config.{settingOf, labelRest}
 use Rattle.geometry.proofs.Settings.{setting-within, setting-ten}
 use Rattle.geometry.proofs.Sizes.{sectors-some}
 use Rattle.geometry.proofs.Addresses.{track-in}
-use Rattle.track.specs.declared.state.State.{State}
+use Rattle.track.specs.Image.{Fits}
 use Rattle.sectors.specs.Transfer.{begun}
 use Rattle.model.specs.declared.block.Block.{Block}
 use Rattle.model.specs.declared.table.Command.{Command}
@@ -127,10 +127,11 @@ module _ (b : Block) (given : List ℕ) (area : ℕ) (entry : Drive) (buffer ima
           (track-cleared (w p valid) (clear p valid (OnDisk (TrackWork FormatBadTrack)) is) refl refl) (plain-most medium p))
       track-outside AssignAlternate is =
           own _ _ (λ ok.
+          let fit : Fits p image = record { within = w p valid; long = fits p valid } in
           let r = assignable p _ (b .address) (alternateOf given) _ _ _ ok in
           let here = track-cleared (w p valid) (clear p valid (OnDisk (TrackWork AssignAlternate)) is) refl refl in
-          alternated-outside low front b p (w p valid) image (fits p valid) _ _ buffer here (alternate-in p (w p valid) (b .address) (alternateOf given) image _ r)
-          (λ keep. keepable p (w p valid) (b .address) (alternateOf given) image _ r here (missing-kept b p _ image keep (r .none-missing))))
+          alternated-outside low front b p (w p valid) image (fits p valid) _ _ buffer here (alternate-in p image fit (b .address) (alternateOf given) _ r)
+          (λ keep. keepable p image fit (b .address) (alternateOf given) _ r here (missing-kept b p _ image keep (r .none-missing))))
 
       sectors-outside : (command : SectorCommand) → rowFor (b .opcode) .command ≡ OnDisk (SectorWork command)
           → AfterIt (Valid p) (doSectors b p given entry buffer image command .image)

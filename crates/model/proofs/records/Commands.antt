@@ -148,13 +148,13 @@ module _ (p : Params) (image : List ℕ) (f : Fits p image) (b : Block) (buffer 
     assigned-other r off =
         let both = or-off (oneTrack p a (b .address)) (oneTrack p a (alternateOf given)) off in
         assign-elsewhere p image f a ha map fill fill-makes plain plain-makes first other here
-        (alternate-in p (f .within) (b .address) (alternateOf given) image _ r) (r .another)
-        (first-free p (f .within) (b .address) (alternateOf given) image _ r) (second-free p (f .within) (b .address) (alternateOf given) image _ r)
+        (alternate-in p image f (b .address) (alternateOf given) _ r) (r .another)
+        (first-free p image f (b .address) (alternateOf given) _ r) (second-free p image f (b .address) (alternateOf given) _ r)
         (other-track p a (b .address) (both .0)) (other-track p a (alternateOf given) (both .1))
 
     kept-other : Found → keeps b ≡ true → oneTrack p a (alternateOf given) ≡ false → contentOf p a (kept p first other map image) ≡ contentOf p a image
     kept-other r keep off =
-        let may = keepable p (f .within) (b .address) (alternateOf given) image _ r here (missing-kept b p first image keep (r .none-missing)) in
+        let may = keepable p image f (b .address) (alternateOf given) _ r here (missing-kept b p first image keep (r .none-missing)) in
         let maps = layout-maps (p .sectors) (b .extra) (omega (arith, f .within .sectors-some)) in
         power p first other map image f maps may _ (kept-late p first other map image f maps may) a ha (other-track p a (alternateOf given) off)
 
