@@ -6,6 +6,7 @@ use std::time::{Duration, Instant};
 
 use crate::duplicates;
 use crate::engine::{apply, Call, Engine, Step};
+use crate::keeps;
 use crate::machine::{Machine, Reply};
 use crate::outcome::{Outcome, Setting};
 use crate::paper::{self, Geometry, Kind};
@@ -198,9 +199,14 @@ fn compared_call<E: Engine>(
 ) -> Result<Answer, String> {
     let before = Setting { controller: engine.record(), area: take(area), images: take(images) };
     let found = Outcome::by(engine, before.clone(), call);
+    let onto_taken = keeps::onto_taken(call, &before);
     Outcome::of(before, call).compare(&found)?;
     for (kind, way) in duplicates::met(call, &found) {
         tally.add(kind, Event::Duplicate(way), 1);
+    }
+    let good = found.answer.number == 0 && found.answer.status & 2 == 0;
+    if let Some((kind, keep)) = onto_taken.filter(|_| good) {
+        tally.add(kind, Event::Resent { keep }, 1);
     }
     (*area, *images) = (found.setting.area, found.setting.images);
     Ok(found.answer)

@@ -7,13 +7,14 @@
 //!   not use, so that a slip in one is not repeated in the other.
 //! - [`random`], [`compare`], [`examples`]: what is tried, for any [`engine::Engine`].
 //! - [`separation`]: that one drive's work does not show in another's (request E6).
-//! - [`copies`], [`duplicates`], [`tally`]: what was reached.
+//! - [`copies`], [`duplicates`], [`keeps`], [`tally`]: what was reached.
 
 pub mod compare;
 pub mod copies;
 pub mod duplicates;
 pub mod engine;
 pub mod examples;
+pub mod keeps;
 pub mod machine;
 pub mod outcome;
 pub mod paper;

@@ -104,6 +104,15 @@ impl Drive {
         }
     }
 
+    /// Moves a track whose addresses keep their bytes (request E7): a bad one has none.
+    fn keep(&mut self, a: u32, b: u32, interleave: u32) -> Result<(), u8> {
+        if self.condition(a) == Condition::Bad {
+            return Err(0x19);
+        }
+        self.tracks.insert(a, Track { state: State::MovedTo(b), interleave });
+        Ok(())
+    }
+
     fn forget_past(&mut self, geometry: &Geometry) {
         self.tracks.retain(|&track, _| track < geometry.tracks());
         self.held.retain(|&address, _| address < geometry.addresses());
@@ -249,7 +258,11 @@ impl Machine {
         let drive = &mut self.drives[request.drive];
         let (a, b) =
             paper::check_assign(request, &geometry, given, |track| drive.condition(track))?;
-        drive.set(&geometry, a, State::MovedTo(b), request.interleave, &fill);
+        if request.keep {
+            drive.keep(a, b, request.interleave).map_err(|code| request.fault(code))?;
+        } else {
+            drive.set(&geometry, a, State::MovedTo(b), request.interleave, &fill);
+        }
         drive.set(&geometry, b, State::TakenBy(a), request.interleave, &fill);
         Ok(())
     }

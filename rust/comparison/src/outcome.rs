@@ -230,9 +230,37 @@ impl Outcome {
     ) -> Result<(), Fault> {
         let condition = |track| self.condition(request, geometry, track);
         let (a, b) = paper::check_assign(request, geometry, given, condition)?;
+        if request.keep {
+            return self.keep(request, geometry, (a, b));
+        }
         let fill = self.fill(request, geometry);
         self.format(request, geometry, a, (2, b), &request.usual_fill(geometry));
         self.format(request, geometry, b, (3, a), &fill);
+        Ok(())
+    }
+
+    /// An assignment that keeps A's sectors (request E7): none is written before all are found. In
+    /// the end B is as formatted, with A's bytes, and A has the IDs of a moved track.
+    fn keep(
+        &mut self,
+        request: &Request,
+        geometry: &Geometry,
+        (a, b): (u32, u32),
+    ) -> Result<(), Fault> {
+        let image = &mut self.setting.images[request.drive];
+        let mut kept = Vec::new();
+        for sector in 0..geometry.sectors {
+            let found = paper::found_slot(image, geometry, a, sector);
+            kept.push(image[found.map_err(|code| request.fault(code))?].to_vec());
+        }
+        let sectors = paper::sectors_of_slots(geometry.sectors, request.interleave);
+        for (slot, sector) in (0..).zip(sectors) {
+            let taken = &mut image[geometry.slot(b, slot)];
+            taken[..8].copy_from_slice(&geometry.id(b, sector, 3, a));
+            taken[8..].copy_from_slice(&kept[sector as usize]);
+            let moved = &mut image[geometry.slot(a, slot)];
+            moved[..8].copy_from_slice(&geometry.id(a, sector, 2, b));
+        }
         Ok(())
     }
 

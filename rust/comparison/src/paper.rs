@@ -320,6 +320,8 @@ pub struct Request {
     pub count: u32,
     /// Control bit 5.
     pub from_buffer: bool,
+    /// Control bit 4.
+    pub keep: bool,
 }
 
 /// A count byte's sectors.
@@ -342,6 +344,7 @@ impl Request {
             interleave: u32::from(block[4]),
             count: count(block[4]),
             from_buffer: block[5] / 32 % 2 == 1,
+            keep: block[5] / 16 % 2 == 1,
         }
     }
 
@@ -536,6 +539,16 @@ fn check_side(
     Ok(geometry)
 }
 
+/// What the control bits of a command that checks them may be, bit 7 aside: only 0Eh has bit 4
+/// (request E7), and there bits 4 and 5 together count as undefined.
+fn defined_control(opcode: u8) -> &'static [u8] {
+    match opcode {
+        0x04 | 0x06 => &[0, 0b0010_0000],
+        0x0E => &[0, 0b0010_0000, 0b0001_0000],
+        _ => &[0],
+    }
+}
+
 /// The first code of the order of checks that arises before the command's own.
 fn first_code(block: &[u8], request: &Request, view: &View) -> Option<u8> {
     let opcode = request.opcode;
@@ -543,10 +556,9 @@ fn first_code(block: &[u8], request: &Request, view: &View) -> Option<u8> {
         return Some(0x20);
     }
     let by_address = matches!(opcode, 0x04..=0x0B | 0x0E);
-    let bit_5_named = matches!(opcode, 0x04 | 0x06 | 0x0E);
-    let undefined = block[5] & if bit_5_named { 0b0101_1111 } else { 0b0111_1111 };
+    let undefined = !defined_control(opcode).contains(&(block[5] % 128));
     let refused = request.kind().rules().refused.contains(&opcode);
-    if block[1] >= 0x80 || (by_address && undefined != 0) || refused {
+    if block[1] >= 0x80 || (by_address && undefined) || refused {
         return Some(0x22);
     }
     if matches!(opcode, 0x03 | 0x0F | 0x10) {
@@ -601,7 +613,8 @@ pub fn check_block_track(request: &Request, condition: Condition) -> Result<(), 
     }
 }
 
-/// Assign Alternate's own checks: the tracks A and B.
+/// Assign Alternate's own checks, up to those of a keep: the tracks A and B. A track that is taken by
+/// A, which is not moved, is free for A (request E7): power has ended its assignment.
 pub fn check_assign(
     request: &Request,
     geometry: &Geometry,
@@ -623,8 +636,8 @@ pub fn check_assign(
         return Err(request.fault(0x22));
     }
     match condition(b) {
-        Condition::Taken(_) => fault_of_b(0x1D),
+        Condition::Taken(partner) if partner != a => fault_of_b(0x1D),
         Condition::Moved(_) | Condition::Bad => fault_of_b(0x1F),
-        Condition::Free => Ok((a, b)),
+        Condition::Taken(_) | Condition::Free => Ok((a, b)),
     }
 }

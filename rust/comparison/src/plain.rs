@@ -32,6 +32,16 @@ mod opcode {
     pub const COPY: u8 = 0x20;
 }
 
+/// Bits of the control byte.
+mod control {
+    /// Keep the contents of a track that gets an alternate.
+    pub const KEEP: u8 = 0x10;
+    /// Fill from the buffer.
+    pub const FROM_BUFFER: u8 = 0x20;
+    /// Defined everywhere, without effect.
+    pub const IDLE: u8 = 0x80;
+}
+
 mod flag {
     pub const SOUND: u8 = 0;
     pub const BAD: u8 = 1;
@@ -180,14 +190,22 @@ impl Block {
 
     /// The control bits that this command does not define; none for an unknown opcode.
     fn undefined_control(&self) -> Option<u8> {
+        use control::*;
         use opcode::*;
         match self.opcode {
-            FORMAT_DRIVE | FORMAT_TRACK | ASSIGN_ALTERNATE => Some(!0xA0),
-            CHECK_TRACK | FORMAT_BAD_TRACK | READ | WRITE | SEEK => Some(!0x80),
+            FORMAT_DRIVE | FORMAT_TRACK => Some(!(IDLE | FROM_BUFFER)),
+            // Each defined by itself, and not both together.
+            ASSIGN_ALTERNATE if self.keeps() => Some(!(IDLE | KEEP)),
+            ASSIGN_ALTERNATE => Some(!(IDLE | FROM_BUFFER)),
+            CHECK_TRACK | FORMAT_BAD_TRACK | READ | WRITE | SEEK => Some(!IDLE),
             TEST_READY | RECALIBRATE | REQUEST_SENSE => Some(0),
             WRITE_BUFFER | READ_BUFFER | INITIALIZE => Some(0),
             _ => None,
         }
+    }
+
+    fn keeps(&self) -> bool {
+        self.control & control::KEEP != 0
     }
 
     /// Whether the drive has no such command.
@@ -458,6 +476,55 @@ impl Format<'_> {
             id.copy_from_slice(&Id::new(own, sector, flag, partner).0);
             data.copy_from_slice(self.fill);
         }
+    }
+}
+
+/// A track that is moved with its contents.
+struct Move {
+    geometry: Geometry,
+    layout: Layout,
+    from: usize,
+    to: usize,
+}
+
+impl Move {
+    /// Power may fail between any two writes, or during one: until the ID of the first track's slot 0
+    /// is written that track is whole, and from then on the other one is.
+    fn run(&self, image: &mut [u8]) -> Result<(), u8> {
+        let slots = self.slots(image)?;
+        let Move { geometry, layout, from, to } = *self;
+        for (slot, &sector) in layout[..geometry.sectors].iter().enumerate() {
+            self.write_id(image, to, slot, flag::TAKEN, from);
+            let kept = self.place(from, slots[usize::from(sector)]) + ID;
+            image.copy_within(kept..kept + geometry.data, self.place(to, slot) + ID);
+        }
+        for slot in 0..geometry.sectors {
+            self.write_id(image, from, slot, flag::MOVED, to);
+        }
+        Ok(())
+    }
+
+    /// The slot of each sector, or the code of the first that is not found.
+    fn slots(&self, image: &[u8]) -> Result<[usize; MOST_SECTORS], u8> {
+        let home = self.geometry.home(image, self.from)?;
+        let stretch = &image[self.geometry.stretch(home)];
+        let mut index = SlotIndex::new();
+        let mut slots = [0; MOST_SECTORS];
+        for (sector, slot) in slots[..self.geometry.sectors].iter_mut().enumerate() {
+            *slot = index.find(stretch, self.geometry.slot_size(), sector).ok_or(0x14)?;
+        }
+        Ok(slots)
+    }
+
+    /// Where a slot starts.
+    fn place(&self, track: usize, slot: usize) -> usize {
+        self.geometry.stretch(track).start + slot * self.geometry.slot_size()
+    }
+
+    fn write_id(&self, image: &mut [u8], track: usize, slot: usize, flag: u8, partner: usize) {
+        let id = Id::new(self.geometry.own(track), self.layout[slot], flag, partner);
+        let start = self.place(track, slot);
+        image[start..start + ID].copy_from_slice(&id.0);
     }
 }
 
@@ -807,7 +874,7 @@ impl Controller {
         answer: &mut Answer,
     ) -> CopyRun<()> {
         let (source, destination) = (&block.source, &block.destination);
-        if block.control & !0x80 != 0 {
+        if block.control & !control::IDLE != 0 {
             return Err((source.drive, fault(0x22)));
         }
         let from = self.check_side(source, images[source.drive].len(), |_| block.count)?;
@@ -852,7 +919,7 @@ impl Controller {
     /// The block's fill: the buffer where control bit 5 asks for it, else the kind's.
     fn fill(&self, block: &Block, data: usize) -> &[u8] {
         let kind = block.kind();
-        let from_buffer = kind.fills_from_buffer && block.control & 0x20 != 0;
+        let from_buffer = kind.fills_from_buffer && block.control & control::FROM_BUFFER != 0;
         &(if from_buffer { &self.buffer } else { &kind.fill })[..data]
     }
 
@@ -902,11 +969,17 @@ impl Controller {
             return Err(fault(0x22));
         }
         match geometry.judged(image, to) {
+            // Taken by this track, which is not moved: it can be sent again.
+            Some((flag::TAKEN, by)) if by == from => {}
             Some((flag::TAKEN, _)) => return Err(fault_at(0x1D, address)),
             Some((flag::MOVED | flag::BAD, _)) => return Err(fault_at(0x1F, address)),
             _ => {}
         }
         let layout = layout(geometry.sectors, block.fifth);
+        if block.keeps() {
+            let moved = Move { geometry, layout, from, to }.run(image);
+            return moved.map_err(|code| fault_at(code, block.address));
+        }
         let mut format = Format { geometry, layout, fill: &block.kind().fill[..geometry.data] };
         format.track(image, from, flag::MOVED, to);
         format.fill = self.fill(block, geometry.data);

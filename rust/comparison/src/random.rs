@@ -35,6 +35,10 @@ const ON_PENDING: [(u32, u8); 6] =
 /// Commands on a drive without parameters; Initialize brings it on.
 const ON_UNKNOWN: [(u32, u8); 5] = [(70, 0x11), (4, 0x00), (8, 0x03), (4, 0x0F), (4, 0x10)];
 
+/// Control bytes of an assignment, by weight: often a keep, seldom with bit 5 besides, which is refused.
+const ASSIGN_CONTROLS: [(u32, u8); 8] =
+    [(5, 0), (4, 0x20), (1, 0xA0), (1, 0x80), (8, 0x10), (2, 0x90), (1, 0x30), (1, 0xB0)];
+
 /// SplitMix64.
 #[derive(Clone)]
 pub struct Random(u64);
@@ -200,6 +204,9 @@ struct Belief {
     pending: bool,
     /// Tracks that were made bad or paired.
     marked: Vec<u32>,
+    /// Assignments that power has cut short: the second track is taken by the first, which is not
+    /// moved.
+    cut: Vec<(u32, u32)>,
     interleaves: BTreeMap<u32, u8>,
 }
 
@@ -347,7 +354,8 @@ impl Caller {
     fn empty_draft(&mut self, opcode: u8, drive: usize) -> Draft {
         let noise = if self.random.chance(30) { self.random.number() as u32 } else { 0 };
         let control = match opcode {
-            0x04 | 0x06 | 0x0E => self.random.weighted(&[(5, 0), (4, 0x20), (1, 0xA0), (1, 0x80)]),
+            0x04 | 0x06 => self.random.weighted(&[(5, 0), (4, 0x20), (1, 0xA0), (1, 0x80)]),
+            0x0E => self.random.weighted(&ASSIGN_CONTROLS),
             0x05..=0x0B | COPY => self.random.weighted(&[(5, 0), (1, 0x80)]),
             _ => noise as u8,
         };
@@ -377,8 +385,8 @@ impl Caller {
     fn address(&mut self, drive: usize, geometry: &Geometry) -> u32 {
         match self.random.below(100) {
             0..=89 => {
-                let sector = self.random.below(geometry.sectors);
-                self.track(drive, geometry) * geometry.sectors + sector
+                let track = self.track(drive, geometry);
+                self.on_track(track, geometry)
             }
             90..=94 => geometry.addresses() - 1 - self.random.below(3),
             95..=97 => geometry.addresses() + self.random.below(3),
@@ -540,18 +548,34 @@ impl Caller {
     }
 
     fn assign(&mut self, draft: &mut Draft, geometry: &Geometry) {
-        draft.address = self.address(draft.drive, geometry);
         draft.fifth = self.interleave(geometry);
-        let alternate = match self.random.below(100) {
-            0..=49 => self.random.below(geometry.addresses()),
-            _ => self.address(draft.drive, geometry),
-        };
+        let alternate;
+        (draft.address, alternate) = self.tracks_of_pair(draft.drive, geometry);
         draft.given = alternate.to_be_bytes()[1..].to_vec();
         if self.random.chance(3) {
             draft.given[0] |= 0x20 << self.random.below(3);
         }
         self.note(draft, geometry.split(draft.address).0, true);
         self.note(draft, geometry.split(alternate).0, true);
+    }
+
+    /// Addresses on A and B of an assignment: any, or those of one that power has cut short.
+    fn tracks_of_pair(&mut self, drive: usize, geometry: &Geometry) -> (u32, u32) {
+        let cut = &self.beliefs[drive].cut;
+        if !cut.is_empty() && self.random.chance(25) {
+            let (a, b) = cut[self.random.size_below(cut.len())];
+            return (self.on_track(a, geometry), self.on_track(b, geometry));
+        }
+        let address = self.address(drive, geometry);
+        let alternate = match self.random.below(100) {
+            0..=49 => self.random.below(geometry.addresses()),
+            _ => self.address(drive, geometry),
+        };
+        (address, alternate)
+    }
+
+    fn on_track(&mut self, track: u32, geometry: &Geometry) -> u32 {
+        track * geometry.sectors + self.random.below(geometry.sectors)
     }
 
     fn initialize(&mut self, draft: &mut Draft) {
@@ -796,17 +820,25 @@ fn write_label(random: &mut Random, image: &mut [u8], config: &Config) {
     }
 }
 
-/// Tracks as formats and assignments leave them.
+/// Two tracks that belong to no pair, if they are drawn.
+fn unpaired(random: &mut Random, states: &[(u8, u32)]) -> Option<(u32, u32)> {
+    let (a, b) = (random.size_below(states.len()), random.size_below(states.len()));
+    (a != b && states[a].0 < 2 && states[b].0 < 2).then_some((a as u32, b as u32))
+}
+
+/// Tracks as formats and assignments leave them, sometimes one of these cut short.
 fn write_tracks(random: &mut Random, image: &mut [u8], geometry: &Geometry, belief: &mut Belief) {
     let tracks = geometry.tracks();
     let mut states: Vec<(u8, u32)> = (0..tracks).map(|_| (random.chance(15) as u8, 0)).collect();
     for _ in 0..random.below(tracks) {
-        let (a, b) = (random.below(tracks), random.below(tracks));
-        let unpaired = |track: u32| states[track as usize].0 < 2;
-        if a != b && unpaired(a) && unpaired(b) {
+        if let Some((a, b)) = unpaired(random, &states) {
             states[a as usize] = (2, b);
             states[b as usize] = (3, a);
         }
+    }
+    if let Some((a, b)) = unpaired(random, &states).filter(|_| random.chance(40)) {
+        states[b as usize] = (3, a);
+        belief.cut.push((a, b));
     }
     // A pair shares its interleave.
     let interleaves: Vec<u32> =

@@ -7,6 +7,7 @@ use std::ops::AddAssign;
 use crate::copies::{self, Side};
 use crate::duplicates;
 use crate::engine::Call;
+use crate::keeps;
 use crate::paper::{Geometry, Kind, Request, COPY, LABEL};
 use crate::plain::{Answer, Drive};
 
@@ -35,6 +36,15 @@ pub enum Event {
     OtherKind,
     /// A format or assignment that ended well with control bit 5.
     BitFive(u8),
+    /// An assignment that ended well with control bit 4, or with this code.
+    Kept,
+    KeepCode(u8),
+    /// 22h of an assignment that has nothing wrong but bits 4 and 5 together.
+    BothBits,
+    /// An assignment, compared whole, that ended well although B was taken: by A, which was not moved.
+    Resent {
+        keep: bool,
+    },
     /// 22h of a command whose control bits and interleave are in order.
     Refused {
         opcode: u8,
@@ -71,6 +81,9 @@ impl Event {
             &OPCODES.map(Event::Good),
             &[Event::Settled, Event::Pending, Event::OtherKind],
             &[0x04, 0x06, 0x0E].map(Event::BitFive),
+            &[Event::Kept, Event::BothBits],
+            &keeps::CODES.map(Event::KeepCode),
+            &[true, false].map(|keep| Event::Resent { keep }),
             &[0x05, 0x0E].map(refused).concat(),
             &copies::SIZES.map(Event::Copied),
             &copies::SIZES.map(Event::Completed),
@@ -90,12 +103,17 @@ impl Event {
         let (floppy, fresh) = (kind == Kind::Floppy, starts == Starts::Fresh);
         match self {
             // Check Track and Assign Alternate, and codes that only they give.
-            Event::Good(0x05 | 0x0E) | Event::BitFive(0x0E) => !floppy,
+            Event::Good(0x05 | 0x0E) | Event::BitFive(0x0E) | Event::Kept => !floppy,
             Event::Code(0x1A | 0x1F) => !floppy,
             // What no format leaves.
             Event::Code(0x10 | 0x12 | 0x14 | 0x15 | 0x1E) => !fresh,
             // Pairs, which a floppy has from damage alone.
             Event::Code(0x1C | 0x1D) => !(fresh && floppy),
+            // No format finds a sector missing, and no list leaves a track taken whose partner is not moved.
+            Event::KeepCode(code) => {
+                code == 0x22 || (!floppy && Event::Code(code).is_possible(starts, kind))
+            }
+            Event::Resent { .. } => !fresh && !floppy,
             // On hard disks Assign Alternate has a 22h of its own.
             Event::Refused { opcode, present } => floppy || (opcode == 0x0E && present),
             // A floppy's sectors have 128 bytes, a hard disk's more.
@@ -119,6 +137,11 @@ impl fmt::Display for Event {
             Event::Pending => "11h pending".to_string(),
             Event::OtherKind => "11h, the other kind's bytes".to_string(),
             Event::BitFive(opcode) => format!("{opcode:02X}h good with bit 5"),
+            Event::Kept => "0Eh good with bit 4".to_string(),
+            Event::KeepCode(code) => format!("0Eh with bit 4: {code:02X}h"),
+            Event::BothBits => "0Eh is 22h by bits 4 and 5".to_string(),
+            Event::Resent { keep: true } => "0Eh sent again with bit 4".to_string(),
+            Event::Resent { keep: false } => "0Eh sent again without bit 4".to_string(),
             Event::Refused { opcode, present: true } => format!("{opcode:02X}h is 22h, present"),
             Event::Refused { opcode, present: false } => format!("{opcode:02X}h is 22h, absent"),
             Event::Copied((from, to)) => format!("20h good, {from} to {to}"),
@@ -214,8 +237,10 @@ impl Tally {
         } else if answer.status & 2 != 0 {
             let code = drive.sense[0] & 0x7F;
             reached(Event::Code(code));
+            keeps::refused(block, code).map(&mut reached);
             if code == 0x22 {
-                refusal(block, given, length).map(reached);
+                refusal(block, given, length).map(&mut reached);
+                keeps::both_bits(block).then(|| reached(Event::BothBits));
             }
         } else {
             reached(Event::Good(request.opcode));
@@ -267,6 +292,7 @@ fn good_end(block: &[u8], drive: &Drive) -> Option<Event> {
         0x11 if drive.pending => Some(Event::Pending),
         0x11 => Some(Event::Settled),
         opcode @ (0x04 | 0x06 | 0x0E) if block[5] & 0x20 != 0 => Some(Event::BitFive(opcode)),
+        0x0E if Request::read(block).keep => Some(Event::Kept),
         _ => None,
     }
 }

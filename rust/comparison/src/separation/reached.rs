@@ -68,6 +68,7 @@ fn events() -> Vec<Event> {
     [
         &OPCODES.map(Event::Good)[..],
         &[0x04, 0x06, 0x0E].map(Event::BitFive),
+        &[Event::Kept],
         &[Event::Settled, Event::Pending, Event::Number(2), Event::Number(3)],
         &CODES.map(Event::Code),
     ]
