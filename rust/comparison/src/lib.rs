@@ -7,6 +7,7 @@
 //!   not use, so that a slip in one is not repeated in the other.
 //! - [`random`], [`compare`], [`examples`]: what is tried, for any [`engine::Engine`].
 //! - [`separation`]: that one drive's work does not show in another's (request E6).
+//! - [`power`]: that no sector is lost where power fails during a move (request E7).
 //! - [`copies`], [`duplicates`], [`keeps`], [`tally`]: what was reached.
 
 pub mod compare;
@@ -19,6 +20,7 @@ pub mod machine;
 pub mod outcome;
 pub mod paper;
 pub mod plain;
+pub mod power;
 pub mod proved;
 pub mod random;
 pub mod separation;
