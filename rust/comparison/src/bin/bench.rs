@@ -23,8 +23,12 @@ const ROUND_SECONDS: f64 = 0.03;
 
 /// The bytes of a label, in front of the tracks.
 const LABEL: usize = 16;
-/// The bytes of a slot's ID, in front of its data.
+/// The bytes of a slot's ID, in front of its data; flag and partner are its last ones.
 const ID: usize = 8;
+const FLAG: usize = 5;
+
+/// Control bit 4 of an assignment.
+const KEEP: u8 = 0x10;
 
 struct Disk {
     name: &'static str,
@@ -172,7 +176,24 @@ impl Memory {
             Row::WriteMany => disk.block(0x0A, self.address(disk, many), many as u8),
             Row::CheckTrack => disk.block(0x05, self.address(disk, 1), 5),
             Row::FormatTrack => disk.block(0x06, self.address(disk, 1), 5),
+            Row::Keep => {
+                let (a, b) = disk.pair(self.address(disk, 1));
+                self.given[..3].copy_from_slice(&b.to_be_bytes()[1..]);
+                let [opcode, high, middle, low, interleave, _] = disk.block(0x0E, a, 5);
+                [opcode, high, middle, low, interleave, KEEP]
+            }
             Row::FormatDrive => disk.block(0x04, 0, 5),
+        }
+    }
+
+    /// Makes the two tracks of an assignment sound again, so that it can be made once more. Their slots
+    /// 0 are enough: the contents are still there, and nothing else looks at the other IDs' flags.
+    fn take_back(&mut self, disk: &Disk, block: &[u8; 6]) {
+        let address = u32::from_be_bytes([0, block[1] & 0x1F, block[2], block[3]]);
+        let (a, b) = disk.pair(address);
+        for first in [a, b] {
+            let id = LABEL + first as usize * (ID + disk.size);
+            self.image[id + FLAG..id + ID].fill(0);
         }
     }
 }
@@ -196,12 +217,15 @@ fn commands<'a>(engine: &'a mut impl Engine, disk: &'a Disk, row: Row) -> Run<'a
         for _ in 0..calls {
             let command = memory.command(disk, row);
             execute(engine, disk, memory, &command);
+            if let Row::Keep = row {
+                memory.take_back(disk, &command);
+            }
         }
     })
 }
 
 /// A copy of as many bytes as a command moves: a transfer's from or to the image, a format's slot by
-/// slot, each from an ID and a sector.
+/// slot, each from an ID and a sector, a moved track's sectors from one place of the image to another.
 fn copy(disk: &Disk, row: Row) -> Option<Run<'_, Memory>> {
     let run: Run<Memory> = match row {
         Row::ReadOne | Row::ReadMany => {
@@ -232,6 +256,14 @@ fn copy(disk: &Disk, row: Row) -> Option<Run<'_, Memory>> {
                     slot[..ID].copy_from_slice(&id);
                     slot[ID..].copy_from_slice(&sector[..disk.size]);
                 }
+            }
+        }),
+        Row::Keep => Box::new(move |memory, calls| {
+            let bytes = disk.slots() as usize * disk.size;
+            for _ in 0..calls {
+                let (a, b) = disk.pair(memory.address(disk, 1));
+                let [from, to] = [a, b].map(|first| first as usize * disk.size);
+                black_box(&mut memory.spare).copy_within(from..from + bytes, to);
             }
         }),
         Row::TestReady | Row::CheckTrack => return None,
@@ -385,6 +417,18 @@ impl Disk {
         [opcode, self.drive_bits() | high, middle, low, extra, 0]
     }
 
+    /// The sectors of a track.
+    fn slots(&self) -> u32 {
+        self.sectors / self.tracks as u32
+    }
+
+    /// The first addresses of two tracks, neighbours: each address belongs to one such pair, but for
+    /// those of a last track, which has no neighbour left, and has the first pair.
+    fn pair(&self, address: u32) -> (u32, u32) {
+        let pair = address / self.slots() / 2 % (self.tracks as u32 / 2);
+        (2 * pair * self.slots(), (2 * pair + 1) * self.slots())
+    }
+
     /// The sectors of a long transfer.
     fn many(&self) -> u32 {
         self.sectors.min(256)
@@ -406,10 +450,13 @@ enum Row {
     WriteMany,
     CheckTrack,
     FormatTrack,
+    Keep,
     FormatDrive,
 }
 
-const ROWS: [Row; 8] = [
+/// Behind a keep the flags of IDs are not those of a format, until the drive is formatted: it comes
+/// just before that.
+const ROWS: [Row; 9] = [
     Row::TestReady,
     Row::ReadOne,
     Row::WriteOne,
@@ -417,10 +464,11 @@ const ROWS: [Row; 8] = [
     Row::WriteMany,
     Row::CheckTrack,
     Row::FormatTrack,
+    Row::Keep,
     Row::FormatDrive,
 ];
 
-/// Floppies have no Check Track.
+/// Floppies have no Check Track and no Assign Alternate.
 const FLOPPY_ROWS: [Row; 7] = [
     Row::TestReady,
     Row::ReadOne,
@@ -440,6 +488,7 @@ fn title(row: Row, disk: &Disk) -> String {
         Row::WriteMany => format!("Write {}", disk.many()),
         Row::CheckTrack => String::from("Check Track"),
         Row::FormatTrack => String::from("Format Track"),
+        Row::Keep => String::from("Assign with keep"),
         Row::FormatDrive => format!("Format {} tracks", disk.tracks),
     }
 }
