@@ -261,6 +261,51 @@ pub fn copy_frames<E: Engine>(make: &impl Fn(&Controller) -> E) {
     }
 }
 
+/// Frames with assignments that keep a track's contents (request E7).
+pub fn keep_frames<E: Engine>(make: &impl Fn(&Controller) -> E) {
+    let mut bench = Bench::fresh(make, FRAMES);
+    let sector = "5A".repeat(256);
+    let (written, read) = (format!("0A0000050100{sector}"), format!("000000{sector}"));
+    // Three cylinders, one head, 96 sectors of 256 bytes: track 1 begins at address 20h.
+    let lines = [
+        ("1100000000000003010001000000000B", "000000"),
+        ("040000000100", "000000"),
+        (&written, "000000"),
+        ("0E0000070230000028", "000200"),
+        ("030000000000", "00000022000000"),
+        ("0E0000070210000008", "000200"),
+        ("030000000000", "00000022000000"),
+        ("0E00000702100000", "020000"),
+        ("0E0000070210000028", "000000"),
+        ("030000000000", "00000000000000"),
+        ("080000050100", &read),
+        ("050000050200", "000000"),
+        ("080000200100", "000200"),
+        ("030000000000", "0000009C000020"),
+        // Sent again, A is moved, and another track finds B taken.
+        ("0E0000070210000028", "000200"),
+        ("030000000000", "0000009D000007"),
+        ("0E0000430210000028", "000200"),
+        ("030000000000", "0000009D000028"),
+        ("FF", "000000"),
+        ("080000050100", &read),
+        // A bad track has nothing to keep, but may be moved.
+        ("040000000100", "000000"),
+        ("070000050100", "000000"),
+        ("0E0000070290000028", "000200"),
+        ("030000000000", "00000099000007"),
+        ("0E0000070280000028", "000000"),
+        // The other commands and floppies do not have bit 4.
+        ("060000400110", "000200"),
+        ("030000000000", "00000022000000"),
+        ("0E4000000110000000", "004200"),
+        ("034000000000", "00400022400000"),
+    ];
+    for (line, printed) in lines {
+        assert_eq!(bench.frame(line), printed, "line {line}");
+    }
+}
+
 impl<E: Engine> Bench<E> {
     /// What the program frames prints for a line.
     fn frame(&mut self, line: &str) -> String {

@@ -1,6 +1,6 @@
 //! What the comparison catches: any change of an outcome, engines that use another slot than the
-//! first of those that hold a sector, engines that take floppies for something else, and engines
-//! that copy in another way.
+//! first of those that hold a sector, engines that take floppies for something else, engines that
+//! copy in another way, and engines that move a track with its contents in another way.
 
 mod wrong;
 
@@ -631,6 +631,245 @@ fn wrong_copies_are_caught() {
     for (name, six, ten) in engines.into_iter().chain([six_bytes]) {
         let [lists, damaged] = both_comparisons(six, ten, Controller::reset);
         println!("{name}: lists: {}", lists.expect_err(name));
+        println!("{name}: damaged: {}", damaged.expect_err(name));
+    }
+}
+
+/// An assignment with what it is lent, and what that was before.
+struct Assigning<'a> {
+    lent: Lent<'a>,
+    geometry: Geometry,
+    a: u32,
+    b: u32,
+    engine: Controller,
+    image: Vec<u8>,
+}
+
+impl<'a> Assigning<'a> {
+    /// What is lent comes back where the block names no tracks of a hard disk in force.
+    fn new(engine: &Controller, lent: Lent<'a>) -> Result<Assigning<'a>, Lent<'a>> {
+        let (block, drive) = (lent.block, lent.drive());
+        let config = &engine.drives[drive].config;
+        let geometry = Geometry::read(lent.kind(), config, lent.images[drive].len());
+        let (Some(geometry), Some(&[high, middle, low])) = (geometry, lent.given.first_chunk())
+        else {
+            return Err(lent);
+        };
+        let (a, _) = geometry.split(u32::from_be_bytes([0, block[1] & 0x1F, block[2], block[3]]));
+        let (b, _) = geometry.split(u32::from_be_bytes([0, high, middle, low]));
+        if !lent.is(Kind::HardDisk, &[0x0E]) || a.max(b) >= geometry.tracks() {
+            return Err(lent);
+        }
+        let image = lent.images[drive].to_vec();
+        Ok(Assigning { lent, geometry, a, b, engine: engine.clone(), image })
+    }
+
+    fn is_keep(&self) -> bool {
+        self.lent.block[5] & 0x7F == 0x10
+    }
+
+    fn image_mut(&mut self) -> &mut [u8] {
+        self.lent.images[self.lent.drive()]
+    }
+
+    fn condition(&self, track: u32) -> Condition {
+        paper::condition(&self.image, &self.geometry, track)
+    }
+
+    fn is_free(&self, track: u32) -> bool {
+        matches!(self.condition(track), Condition::Free | Condition::Bad)
+    }
+
+    /// Done rightly; whether it is a keep that ended well.
+    fn right(&mut self, engine: &mut Controller) -> (Answer, bool) {
+        let answer = self.lent.right(engine);
+        (answer, self.is_keep() && answer.number == 0 && answer.status & 2 == 0)
+    }
+
+    /// The code that it ended with, if it is so.
+    fn code(&self, engine: &Controller, answer: Answer) -> u8 {
+        let failed = answer.number == 0 && answer.status & 2 != 0;
+        if failed {
+            engine.drives[self.lent.drive()].sense[0] & 0x7F
+        } else {
+            0
+        }
+    }
+
+    /// The code of A's first sector that is not found, with its address, where A may be moved.
+    fn missing(&self) -> Option<Fault> {
+        if !self.is_free(self.a) {
+            return None;
+        }
+        let first = Place { drive: self.lent.drive(), address: self.a * self.geometry.sectors };
+        (0..self.geometry.sectors).find_map(|sector| {
+            let found = paper::found_slot(&self.image, &self.geometry, self.a, sector);
+            found.err().map(|code| first.further(sector).fault(code))
+        })
+    }
+}
+
+type AssignCommand = fn(&mut Controller, Assigning) -> Answer;
+
+/// An assignment that is done in another way.
+fn wrong_assign(engine: &mut Controller, lent: Lent, assign: AssignCommand) -> Answer {
+    match Assigning::new(engine, lent) {
+        Ok(assigning) => assign(engine, assigning),
+        Err(mut lent) => lent.right(engine),
+    }
+}
+
+fn not_kept(engine: &mut Controller, mut assign: Assigning) -> Answer {
+    if assign.is_keep() {
+        return assign.lent.with_byte(engine, 5, 0);
+    }
+    assign.right(engine).0
+}
+
+/// Bits 4 and 5 together are a keep.
+fn both_bits_taken(engine: &mut Controller, mut assign: Assigning) -> Answer {
+    if assign.lent.block[5] & 0x7F == 0x30 {
+        return assign.lent.with_byte(engine, 5, 0x10);
+    }
+    assign.right(engine).0
+}
+
+fn kept_in_buffer(engine: &mut Controller, mut assign: Assigning) -> Answer {
+    let (answer, kept) = assign.right(engine);
+    if kept {
+        let last = assign.geometry.slot_data(assign.b, assign.geometry.sectors - 1);
+        let bytes = assign.image_mut()[last].to_vec();
+        engine.buffer[..bytes.len()].copy_from_slice(&bytes);
+    }
+    answer
+}
+
+/// A's data are filled as without keep.
+fn a_filled(engine: &mut Controller, mut assign: Assigning) -> Answer {
+    let (answer, kept) = assign.right(engine);
+    for slot in (0..assign.geometry.sectors).filter(|_| kept) {
+        let data = assign.geometry.slot_data(assign.a, slot);
+        assign.image_mut()[data].fill(0x6C);
+    }
+    answer
+}
+
+/// Of A's IDs slot 0 alone is written.
+fn other_ids_left(engine: &mut Controller, mut assign: Assigning) -> Answer {
+    let (answer, kept) = assign.right(engine);
+    for slot in (1..assign.geometry.sectors).filter(|_| kept) {
+        let start = assign.geometry.slot(assign.a, slot).start;
+        let before = assign.image[start..start + 8].to_vec();
+        assign.image_mut()[start..start + 8].copy_from_slice(&before);
+    }
+    answer
+}
+
+/// Each slot of B gets the data of A's slot, whatever sector that holds.
+fn slot_by_slot(engine: &mut Controller, mut assign: Assigning) -> Answer {
+    let (answer, kept) = assign.right(engine);
+    for slot in (0..assign.geometry.sectors).filter(|_| kept) {
+        let [from, to] = [assign.a, assign.b].map(|track| assign.geometry.slot_data(track, slot));
+        let bytes = assign.image[from].to_vec();
+        assign.image_mut()[to].copy_from_slice(&bytes);
+    }
+    answer
+}
+
+/// What A lacks is lost: then it is moved as without keep.
+fn moved_all_the_same(engine: &mut Controller, mut assign: Assigning) -> Answer {
+    let (answer, _) = assign.right(engine);
+    let code = assign.code(engine, answer);
+    if assign.is_keep() && matches!(code, 0x10 | 0x12 | 0x14 | 0x15 | 0x19) {
+        return assign.lent.with_byte(engine, 5, 0);
+    }
+    answer
+}
+
+/// The sense names the missing sector.
+fn sector_named(engine: &mut Controller, mut assign: Assigning) -> Answer {
+    let (answer, _) = assign.right(engine);
+    let code = assign.code(engine, answer);
+    if let Some(fault) = assign.missing().filter(|fault| assign.is_keep() && fault.code == code) {
+        engine.drives[assign.lent.drive()].sense = paper::sense(fault);
+    }
+    answer
+}
+
+/// A is looked at before B.
+fn missing_first(engine: &mut Controller, mut assign: Assigning) -> Answer {
+    let (answer, _) = assign.right(engine);
+    let of_b = matches!(assign.code(engine, answer), 0x1D | 0x1F);
+    if let Some(fault) = assign.missing().filter(|_| assign.is_keep() && of_b) {
+        let drive = assign.lent.drive();
+        let [_, high, middle, low, ..] = *assign.lent.block else { unreachable!("six bytes") };
+        engine.drives[drive].sense = [fault.code + 0x80, high, middle, low];
+    }
+    answer
+}
+
+/// A track that A has taken is not free for it.
+fn not_sent_again(engine: &mut Controller, mut assign: Assigning) -> Answer {
+    let (answer, _) = assign.right(engine);
+    let good = answer.number == 0 && answer.status & 2 == 0;
+    if !good || !matches!(assign.condition(assign.b), Condition::Taken(_)) {
+        return answer;
+    }
+    let (drive, before) = (assign.lent.drive(), assign.image.clone());
+    assign.image_mut().copy_from_slice(&before);
+    let [high, middle, low] = *assign.lent.given.first_chunk().expect("B's address");
+    *engine = assign.engine;
+    engine.drives[drive].sense = [0x9D, 32 * drive as u8 + high, middle, low];
+    Answer { status: answer.status + 2, ..answer }
+}
+
+/// A taken track whose partner is not moved to it is free for every track.
+fn free_for_all(engine: &mut Controller, mut assign: Assigning) -> Answer {
+    let (answer, _) = assign.right(engine);
+    let Condition::Taken(partner) = assign.condition(assign.b) else {
+        return answer;
+    };
+    let stray = partner < assign.geometry.tracks()
+        && assign.condition(partner) != Condition::Moved(assign.b);
+    if stray && assign.is_free(assign.a) && assign.code(engine, answer) == 0x1D {
+        let flag = assign.geometry.slot(assign.b, 0).start + 5;
+        assign.image_mut()[flag] = 0;
+        let again = assign.lent.right(engine);
+        if again.status & 2 != 0 {
+            let before = assign.image.clone();
+            assign.image_mut().copy_from_slice(&before);
+        }
+        return again;
+    }
+    answer
+}
+
+#[test]
+fn wrong_keeps_are_caught() {
+    let everywhere: [(&str, Command); 9] = [
+        ("contents not kept", |e, lent| wrong_assign(e, lent, not_kept)),
+        ("bits 4 and 5 together", |e, lent| wrong_assign(e, lent, both_bits_taken)),
+        ("a sector in the buffer", |e, lent| wrong_assign(e, lent, kept_in_buffer)),
+        ("A's data filled", |e, lent| wrong_assign(e, lent, a_filled)),
+        ("A's other IDs left", |e, lent| wrong_assign(e, lent, other_ids_left)),
+        ("slot by slot", |e, lent| wrong_assign(e, lent, slot_by_slot)),
+        ("moved all the same", |e, lent| wrong_assign(e, lent, moved_all_the_same)),
+        ("the missing sector's address", |e, lent| wrong_assign(e, lent, sector_named)),
+        ("A looked at before B", |e, lent| wrong_assign(e, lent, missing_first)),
+    ];
+    for (name, six) in everywhere {
+        let [lists, damaged] = both_comparisons(six, as_it_should, Controller::reset);
+        println!("{name}: lists: {}", lists.expect_err(name));
+        println!("{name}: damaged: {}", damaged.expect_err(name));
+    }
+    // No list leaves a track taken by one that is not moved to it.
+    let where_cut: [(&str, Command); 2] = [
+        ("not free for its partner", |e, lent| wrong_assign(e, lent, not_sent_again)),
+        ("free for every track", |e, lent| wrong_assign(e, lent, free_for_all)),
+    ];
+    for (name, six) in where_cut {
+        let [lists, damaged] = both_comparisons(six, as_it_should, Controller::reset);
+        assert_eq!(lists, Ok(()), "{name}");
         println!("{name}: damaged: {}", damaged.expect_err(name));
     }
 }
