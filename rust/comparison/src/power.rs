@@ -11,7 +11,7 @@ mod starts;
 use std::fmt;
 use std::ops::{AddAssign, Range};
 
-use crate::engine::{lent, Call, Engine};
+use crate::engine::{lent, lent_mut, Call, Engine};
 use crate::outcome::{Outcome, Setting};
 use crate::paper::{self, Geometry, Place, ID};
 use crate::plain::{Answer, Controller};
@@ -196,14 +196,13 @@ impl<'a, E: Engine> Trial<'a, E> {
     fn read(&mut self, address: u32) -> Reading {
         let mut area = vec![LENT; self.start.geometry.data + 1];
         let block = self.start.block(0x08, address, 1, 0);
-        let images = self.images.each_mut().map(Vec::as_mut_slice);
-        let answer = self.engine.execute(&block, &[], &mut area, images);
+        let answer = self.engine.execute(&block, &[], &mut area, lent_mut(&mut self.images));
         Reading { answer, area, sense: self.sense() }
     }
 
     fn send(&mut self) -> Answer {
-        let images = self.images.each_mut().map(Vec::as_mut_slice);
-        self.engine.execute(&self.start.command(), &self.start.alternate(), &mut [], images)
+        let (block, given) = (self.start.command(), self.start.alternate());
+        self.engine.execute(&block, &given, &mut [], lent_mut(&mut self.images))
     }
 
     /// The command without a cut, whose outcome is the document's: the image that it leaves.
@@ -269,18 +268,16 @@ impl<'a, E: Engine> Trial<'a, E> {
     }
 
     fn reads_as_before(&mut self) -> Result<(), String> {
-        let before = std::mem::take(&mut self.before);
-        for (address, expected) in &before {
-            let found = self.read(*address);
+        for k in 0..self.before.len() {
+            let address = self.before[k].0;
+            let (found, expected) = (self.read(address), &self.before[k].1);
+            self.tried.reads += 1;
             if found != *expected {
+                let place = self.start.geometry.split(address);
                 let how = difference(expected, &found);
-                return Err(format!("address {address}, track and sector {:?}: {how}", {
-                    self.start.geometry.split(*address)
-                }));
+                return Err(format!("address {address}, track and sector {place:?}: {how}"));
             }
         }
-        self.tried.reads += before.len() as u64;
-        self.before = before;
         Ok(())
     }
 

@@ -156,11 +156,12 @@ impl Disk {
     /// Sound tracks, with data that tell each slot from all others.
     fn formatted(random: &mut Random, others: Others, size: u8) -> Disk {
         let (cylinders, heads) = match others {
-            Others::Sound => (3, 2),
+            Others::Sound => (3u16, 2),
             Others::Damaged => (4, 3),
-            Others::Many => (132, 2),
+            Others::Many => (264, 1),
         };
-        let config: Config = [0, cylinders, heads, 0, size, 0, 0, 0, 0, 11];
+        let [high, low] = cylinders.to_be_bytes();
+        let config: Config = [high, low, heads, 0, size, 0, 0, 0, 0, 11];
         let geometry = Geometry::read(Kind::HardDisk, &config, usize::MAX).expect("valid");
         let mut image = random.bytes(geometry.image_length());
         image[..10].copy_from_slice(&config);
