@@ -20,12 +20,17 @@ use Rattle.track.specs.State.{flagOf}
 use Rattle.track.specs.Image.{Fits, firstId}
 use Rattle.track.specs.Find.{whereOf}
 use Rattle.track.specs.Pair.{stateOf}
-use Rattle.track.proofs.Laws.{home-parts}
+use Rattle.track.proofs.Laws.{home-parts, on-same}
+use Rattle.track.specs.declared.find.Sector.the-variants.{Slot}
 use Rattle.sectors.specs.Transfer.{found}
-use Rattle.contents.specs.Content.{contentAt, contentOf}
+use Rattle.sectors.proofs.Laws.{found-there}
+use Rattle.contents.specs.Content.{Bytes, contentAt, contentOf}
+use Rattle.contents.proofs.Places.{content-fault}
+use Rattle.contents.proofs.Puts.{by-found}
 use Rattle.contents.proofs.Pair.{Free, pair-elsewhere}
 use Rattle.keeping.specs.Keep.{kept, Mapped, Keepable}
 use Rattle.keeping.specs.Power.{Interrupted}
+use Rattle.keeping.proofs.Reading.{missing-bytes}
 use Rattle.keeping.proofs.Apart.{free-from, free-to}
 use Rattle.keeping.proofs.Before.{from-first, unmoved-from, unmoved-to, unmoved-reads, unmoved-keepable}
 use Rattle.keeping.proofs.After.{first-here, moved-from, moved-to, moved-where, moved-state, moved-reads}
@@ -90,3 +95,17 @@ module _ (p : Params) (from to : Track) (map image : List ℕ) (fits : Fits p im
       by (inl u) = absurd (ne (from-first p from to map image after fits may u))
       by (inr l) =
           (moved-state p from to map image after fits maps may (l .0) (l .1) (l .2), moved-where p from to map image after fits maps may (l .0) (l .1) (l .2))
+
+  -- each of A's addresses is found there, with the contents that it had
+  pub moved-found : (firstId p from after ≡ firstId p from image → ⊥) → (a : Lba) → OnDrive p a → trackOf p a ≡ from
+      → (k : ℕ) × (found p a after ≡ Slot to k) × (contentOf p a after ≡ contentOf p a image)
+  moved-found ne a h its =
+      let same = power a h (λ e. may .apart (sym (ap (λ (t : Track). t .0) its) ∙ e)) in
+      let was = may .whole (sectorOf p a) (sector-in p (fits .within) a) in
+      let held : contentOf p a after ≡ Bytes (was .0) = same ∙ content-at p a image ∙ ap (λ (t : Track). contentAt p t (sectorOf p a) image) its ∙ was .1 in
+      by-found p a after ((k : ℕ) × (found p a after ≡ Slot to k) × (contentOf p a after ≡ contentOf p a image))
+      (λ code e. absurd (missing-bytes code _ (sym (content-fault p a after code e) ∙ held)))
+      (λ u k e. (k, e ∙ ap (λ (t : Track). Slot t k) (on-same u to (sym (there a u k e its) ∙ moved ne .1)), same))
+    where
+      there : (a : Lba) (u : Track) (k : ℕ) → found p a after ≡ Slot u k → trackOf p a ≡ from → whereOf p from after ≡ On u
+      there a u k e its = ap (λ (t : Track). whereOf p t after) (sym its) ∙ found-there p a after u k e .0

@@ -4,3 +4,4 @@ pub mod claim
 pub mod readers
 pub mod separation
 pub mod anchors
+pub mod power

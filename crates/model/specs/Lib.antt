@@ -13,3 +13,4 @@ pub mod Machine
 pub mod Claim
 pub mod Separation
 pub mod Turns
+pub mod Power

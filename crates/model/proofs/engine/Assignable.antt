@@ -5,10 +5,11 @@ use mathlib.Core.Logic.{_⊎_, inl, inr}
 use mathlib.Core.Bool.{true, false, _||_, true≢false}
 use mathlib.Core.List.{List}
 use native.Mathlib.Omega.{arith}
-use borrow.Author.Tests.{eqb-true, eqb-false, ltb-false}
+use lib.Dec.{ltb}
+use borrow.Author.Tests.{eqb-true, eqb-false, eq-eqb, ne-eqb, ltb-false, le-ltb}
 use Rattle.base.specs.Pick.{pick}
 use Rattle.base.proofs.Bools.{or-off, not-false}
-use Rattle.base.proofs.Decide.{pick-true}
+use Rattle.base.proofs.Decide.{pick-true, pick-both}
 use Rattle.geometry.specs.declared.params.Lba.{Lba}
 use Rattle.geometry.specs.declared.params.Track.{Track}
 use Rattle.geometry.specs.declared.params.Params.{Params}
@@ -20,15 +21,16 @@ use Rattle.track.specs.declared.state.State.the-variants.{Sound, Bad, Moved, Ta
 use Rattle.track.specs.State.{isBad, isMoved, isTaken, isTakenByOther}
 use Rattle.track.specs.Image.{Fits}
 use Rattle.track.specs.Pair.{stateOf}
+use Rattle.track.proofs.Laws.{home-state}
 use Rattle.contents.proofs.Laws.{NotTaken, FreeFor}
 use Rattle.keeping.specs.Keep.{keepCode, Keepable}
-use Rattle.keeping.proofs.Chosen.{may-keep}
+use Rattle.keeping.proofs.Chosen.{may-keep, keepable-code}
 use Rattle.model.specs.declared.block.Block.{Block}
 use Rattle.model.specs.declared.verdict.Verdict.the-variants.{Passed}
 use Rattle.model.specs.Block.{keeps, alternateOf}
 use Rattle.model.specs.Checks.{judged}
 use Rattle.model.specs.Commands.{assignTests, missingIn}
-use Rattle.model.proofs.engine.Judged.{passed-on}
+use Rattle.model.proofs.engine.Judged.{passed-on, judged-on, judged-none}
 
 pub record Assignable (p : Params) (a alternate : Lba) (stateA stateB : State) (missing : ℕ) : Type 0 where
   pub on-drive : alternate .0 ≤ lastAddress p .0
@@ -60,6 +62,20 @@ assignable p first a alternate stateA stateB missing e =
       fitting = or-off _ _ (t₇ .0);
       none-missing = eqb-true _ _ (not-false _ (t₈ .0));
     }
+
+-- and the other way
+pub first-low : (p : Params) (first : ℕ) (a alternate : Lba) (stateA stateB : State) (missing : ℕ)
+    → judged (assignTests p first a alternate stateA stateB missing) ≡ Passed → ltb 0x1F first ≡ false
+unfolding assignTests
+first-low p first a alternate stateA stateB missing e = passed-on _ _ _ _ e .0
+
+pub assign-passes : (p : Params) (first : ℕ) (a alternate : Lba) (stateA stateB : State) (missing : ℕ) → ltb 0x1F first ≡ false
+    → Assignable p a alternate stateA stateB missing → judged (assignTests p first a alternate stateA stateB missing) ≡ Passed
+unfolding assignTests
+assign-passes p first a alternate stateA stateB missing low r =
+    judged-on _ _ _ low ∙ judged-on _ _ _ (le-ltb _ _ (r .on-drive)) ∙ judged-on _ _ _ (r .unmoved) ∙ judged-on _ _ _ (r .untaken)
+    ∙ judged-on _ _ _ (ne-eqb _ _ (r .another)) ∙ judged-on _ _ _ (r .free) ∙ judged-on _ _ _ (rw (r .fitting .0, r .fitting .1))
+    ∙ judged-on _ _ _ (rw (r .none-missing)) ∙ judged-none
 
 -- ---- a state by what it is not
 pub not-taken : (p : Params) (t : Track) (image : List ℕ) → isTaken (stateOf p t image) ≡ false → NotTaken p t image
@@ -98,6 +114,33 @@ module _ (p : Params) (image : List ℕ) (fit : Fits p image) (a alternate : Lba
   keepable h code =
       may-keep p (trackOf p a) (trackOf p alternate) image fit h alternate-in (λ e. r .another (sym e))
       (free-state (trackOf p a) _ (r .free) (r .fitting .0) (r .fitting .1)) (λ u e. unmoved-state _ u (r .unmoved) e) code
+
+-- ---- A that can be moved to B with its contents passes
+module _ (b : Block) (p : Params) (a alternate : Lba) (image : List ℕ) (may : Keepable p (trackOf p a) (trackOf p alternate) image) where
+  sound-unmoved : (state : State) → state ≡ Sound → (isMoved state ≡ false) × (isTaken state ≡ false)
+  unfolding isMoved isTaken
+  sound-unmoved state e = (rw e, rw e)
+
+  free-fits : (state : State) → (state ≡ Sound) ⊎ (state ≡ Taken (trackOf p a)) → (isTakenByOther (trackOf p a) state ≡ false) × (isMoved state ≡ false) × (isBad state ≡ false)
+  unfolding isTakenByOther isMoved isBad
+  free-fits state (inl e) = (rw e, rw e, rw e)
+  free-fits state (inr e) = (rw (e, eq-eqb (trackOf p a .0) (trackOf p a .0) refl), rw e, rw e)
+
+  pub kept-passes : alternate .0 ≤ lastAddress p .0
+      → Assignable p a alternate (stateOf p (trackOf p a) image) (stateOf p (trackOf p alternate) image) (missingIn b p (trackOf p a) image)
+  unfolding missingIn
+  kept-passes h =
+      let one = sound-unmoved _ (home-state p (trackOf p a) image (may .home)) in
+      let other = free-fits _ (may .free) in
+      record {
+        on-drive = h;
+        unmoved = one .0;
+        untaken = one .1;
+        another = λ e. may .apart (sym e);
+        free = other .0;
+        fitting = (other .1, other .2);
+        none-missing = pick-both (λ (n : ℕ). n ≡ 0) (keeps b) _ _ (keepable-code p (trackOf p a) (trackOf p alternate) image may) refl;
+      }
 
 -- with keep the code asked for is A's
 pub missing-kept : (b : Block) (p : Params) (A : Track) (image : List ℕ) → keeps b ≡ true → missingIn b p A image ≡ 0 → keepCode p A image ≡ 0

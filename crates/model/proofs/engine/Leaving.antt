@@ -21,6 +21,8 @@ use Rattle.track.specs.declared.find.Sector.the-variants.{Slot, Fault}
 use Rattle.interleave.specs.Layout.{layoutOf}
 use Rattle.formatter.specs.Check.{checkCode}
 use Rattle.sectors.specs.Transfer.{Transfer, begun, ended, readSlot, writeSlot, onward, found, reading, writing}
+use Rattle.track.specs.declared.state.State.{State}
+use Rattle.base.specs.Byte.{byte}
 use Rattle.model.specs.declared.block.Block.{Block}
 use Rattle.model.specs.declared.table.Command.{Command}
 use Rattle.model.specs.declared.table.Command.the-variants.{Free, OnDisk, Copy, Unknown}
@@ -40,7 +42,7 @@ use Rattle.model.specs.declared.record.Ending.{Ending}
 use Rattle.model.specs.declared.verdict.View.{View}
 use Rattle.model.specs.declared.verdict.Verdict.{Verdict}
 use Rattle.model.specs.declared.verdict.Verdict.the-variants.{Refused, Faulty, Passed}
-use Rattle.model.specs.Block.{countOf}
+use Rattle.model.specs.Block.{countOf, alternateOf}
 use Rattle.model.specs.Table.{rowFor}
 use Rattle.model.specs.Checks.{Test, on, refuses, judged, bytesOf, hitsOf, inOrder, judgeOver, judge}
 use Rattle.model.specs.Sense.{addressed, senseOf}
@@ -173,6 +175,11 @@ judged-by (faults some rest) = picked _ (λ hit. fault _ _ (some hit)) (judged-b
 judged-by (seconds rest) = picked _ (λ hit. second) (judged-by rest)
 judged-by (thirds rest) = picked _ (λ hit. third) (judged-by rest)
 judged-by (spares off rest) = picked _ (λ hit. absurd (true≢false (sym hit ∙ off))) (judged-by rest)
+
+pub assign-judged : (p : Params) (first : ℕ) (a b : Lba) (stateA stateB : State) (missing : ℕ) → Verdicts false (judged (assignTests p first a b stateA stateB missing))
+unfolding assignTests
+assign-judged p first a b stateA stateB missing =
+    judged-by (faults some (faults some (faults some (faults some (faults some (faults some (faults some (faults (not-zero missing) done))))))))
 
 check-judged : (code : ℕ) (a : Lba) → Verdicts false (judged (checkTests code a))
 unfolding checkTests
@@ -310,7 +317,7 @@ module _ (b : Block) (given : List ℕ) (entry : Drive) (buffer image : List ℕ
         by-own FormatBadTrack _ (judged-by (faults some (faults some done)))
         (record { number = refl; bytes = refl; makes = cleared refl; fills = as-was refl; hands = nothing refl; writes = bad-format _ })
     track-ends AssignAlternate =
-        by-own AssignAlternate _ (judged-by (faults some (faults some (faults some (faults some (faults some (faults some (faults some (faults {code = missingIn b p (trackOf p (b .address)) image} (not-zero _) done)))))))))
+        by-own AssignAlternate _ (assign-judged p (byte given 0) (b .address) (alternateOf given) _ _ (missingIn b p (trackOf p (b .address)) image))
         (record { number = refl; bytes = refl; makes = cleared refl; fills = as-was refl; hands = nothing refl; writes = alternate _ })
 
     -- a transfer's end, whatever its code

@@ -55,11 +55,11 @@ use Rattle.model.proofs.records.Commands.{not-good, write-other, write-
 use Rattle.model.proofs.records.Copies.{copy-spares}
 
 -- ---- A command that has not passed counts no sector, leaves the image, and does not end with good status
-record NotDone (drive : ℕ) (x : Ending) : Type 0 where
-  none : x .answer .sectors ≡ 0
-  bad : isGood drive (x .answer) ≡ false
+pub record NotDone (drive : ℕ) (x : Ending) : Type 0 where
+  pub none : x .answer .sectors ≡ 0
+  pub bad : isGood drive (x .answer) ≡ false
 
-by-verdict : (P : Effect → Type 0) (drive : ℕ) (entry : Drive) (buffer image : List ℕ) (after : Effect) {v : Verdict} → Verdicts true v
+pub by-verdict : (P : Effect → Type 0) (drive : ℕ) (entry : Drive) (buffer image : List ℕ) (after : Effect) {v : Verdict} → Verdicts true v
     → ((x : Ending) → NotDone drive x → P (effect x buffer [] image)) → (v ≡ Passed → P after)
     → P (unless v drive entry (λ e. effect e buffer [] image) after)
 unfolding unlessNamed refused failed isGood

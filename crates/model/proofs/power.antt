@@ -1,0 +1,5 @@
+-- Request E7: what holds after a power failure during a move.
+pub mod Reading
+pub mod Passed
+pub mod Restarted
+pub mod Powered
