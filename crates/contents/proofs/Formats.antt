@@ -1,7 +1,6 @@
 -- No other record: formats change the content of no address outside the tracks formatted, in any image.
 use mathlib.Core.Path.{_≡_, refl, sym, ap, _∙_}
-use mathlib.Core.Bool.{Bool, true, false, not, _&&_, true≢false}
-use mathlib.Core.Logic.{_⊎_, inl, inr}
+use mathlib.Core.Bool.{Bool, true, false, not, true≢false}
 use mathlib.Core.List.{List}
 use Prim.Native.Nat.{ℕ, zero, suc, _+_, _-_, _*_, _≤_, _<_}
 use native.Mathlib.Omega.{arith}
@@ -11,7 +10,7 @@ use lib.ListN.{length, getD}
 use lib.Dec.{eqb, ltb}
 use borrow.Author.Tests.{eq-eqb, ne-eqb, eqb-true, ltb-true, lt-ltb}
 use Rattle.base.specs.Part.{part, splice}
-use Rattle.base.proofs.Bools.{both-true, not-true, not-false}
+use Rattle.base.proofs.Bools.{not-true, not-false}
 use Rattle.base.proofs.Parts.{length-splice, part-same, part-after, part-part, other-cell, cell-in}
 use Rattle.geometry.specs.declared.params.Params.{Params}
 use Rattle.geometry.specs.declared.params.Lba.{Lba}

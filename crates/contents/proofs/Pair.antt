@@ -21,7 +21,7 @@ use Rattle.track.specs.Find.{takenBy}
 use Rattle.track.proofs.Laws.{state-taken, taken-made}
 use Rattle.contents.specs.Content.{contentOf}
 use Rattle.contents.proofs.Terms.{FreeFor}
-use Rattle.contents.proofs.Elsewhere.{NoneTaken, Keeps, content-kept}
+use Rattle.contents.proofs.Elsewhere.{NoneTaken, content-kept}
 
 -- none but A has taken track u
 abbrev pub Free : Params → (A u : Track) → (image : List ℕ) → Type 0

@@ -1,6 +1,6 @@
 -- Tracks whose IDs are those of a format: what finding, the format commands and Check Track see in them.
 use mathlib.Core.Path.{_≡_, refl, sym, ap, _∙_}
-use mathlib.Core.Bool.{Bool, true, false, _&&_, true≢false}
+use mathlib.Core.Bool.{Bool, true, false, true≢false}
 use mathlib.Core.Option.{Option, none, some}
 use mathlib.Core.List.{List}
 use Prim.Native.Nat.{ℕ, _<_}
@@ -8,7 +8,7 @@ use native.Mathlib.Omega.{arith}
 use native.Mathlib.Decide.{ℕ-discrete}
 use lib.ListN.{length, getD}
 use lib.Dec.{eqb}
-use borrow.Author.Tests.{eq-eqb, ne-eqb, eqb-true, lt-ltb}
+use borrow.Author.Tests.{eq-eqb, ne-eqb, eqb-true}
 use Rattle.base.specs.Pick.{pick}
 use Rattle.base.specs.Same.{sameBytes}
 use Rattle.base.proofs.Decide.{pick-true, pick-false}
@@ -20,16 +20,14 @@ use Rattle.geometry.specs.Params.{trackCount}
 use Rattle.interleave.specs.Layout.{layoutOf}
 use Rattle.interleave.proofs.Layouts.{layout-length}
 use Rattle.interleave.proofs.Slots.{sectorAt, slotOf, slot-lt, sector-slot, slot-sector, slot-one}
-use Rattle.track.specs.declared.id.Id.{Id}
 use Rattle.track.specs.declared.state.State.{State}
 use Rattle.track.specs.declared.state.State.the-variants.{Sound, Bad, Moved, Taken}
 use Rattle.track.specs.declared.find.Where.the-variants.{On, Off}
 use Rattle.track.specs.Id.{idBytes, idIn, idFor, withSector}
-use Rattle.track.specs.State.{flagOf, partnerOf}
 use Rattle.track.specs.Image.{trackBytes, slotId, slotData, firstId}
 use Rattle.track.specs.declared.find.Sector.the-variants.{Slot, Fault}
-use Rattle.track.specs.Find.{takenBy, whereBy, whereOf, holds, slotUsed, sectorIn, sectorFrom, sectorFound}
-use Rattle.track.specs.Pair.{stateBy, stateOf}
+use Rattle.track.specs.Find.{whereOf, holds, slotUsed, sectorIn, sectorFrom, sectorFound}
+use Rattle.track.specs.Pair.{stateOf}
 use Rattle.track.proofs.Laws.{id-back, sector-for, state-written, sound-written, bad-written, taken-written, moved-written, holds-written, used-holds, unused}
 use Rattle.formatter.specs.Format.{formatted}
 use Rattle.formatter.specs.Check.{idIs, idsAre, homeState, checkedOn, checkCode}

@@ -16,3 +16,4 @@ pub mod Notes
 pub mod Chosen
 pub mod Stores
 pub mod Stepping
+pub mod Example

@@ -1,7 +1,7 @@
 -- Request E7's promise, of the image: whenever power fails during a move, every address outside B reads as before; and the move can be
 -- made again, or A is moved.
 use mathlib.Core.Path.{_≡_, refl, sym, ap, _∙_}
-use mathlib.Core.Logic.{_⊎_, inl, inr}
+use mathlib.Core.Logic.{inl, inr}
 use mathlib.Core.List.{List}
 use Prim.Native.Nat.{ℕ, _<_}
 use native.Mathlib.Omega.{arith}

@@ -9,8 +9,7 @@ use Rattle.geometry.specs.declared.params.Params.{Params}
 use Rattle.geometry.specs.declared.params.Track.{Track}
 use Rattle.geometry.specs.Params.{trackCount, imageLength}
 use Rattle.track.specs.declared.find.Where.the-variants.{On, Off}
-use Rattle.track.specs.declared.find.Sector.{Sector}
-use Rattle.track.specs.declared.find.Sector.the-variants.{Slot, Fault}
+use Rattle.track.specs.declared.find.Sector.the-variants.{Slot}
 use Rattle.track.specs.Image.{trackBytes, slotData}
 use Rattle.track.specs.Find.{whereOf, slotUsed, sectorIn, sectorFound}
 use Rattle.track.proofs.Laws.{length-track, length-data, used-holds, sector-on, sector-off}

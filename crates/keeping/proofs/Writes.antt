@@ -12,7 +12,7 @@ use Rattle.base.proofs.Parts.{length-splice, part-same, part-before, part-after
 use Rattle.geometry.specs.declared.params.Params.{Params}
 use Rattle.geometry.specs.declared.params.Track.{Track}
 use Rattle.geometry.specs.Params.{trackCount, slotSize, trackSize, imageLength, trackStart}
-use Rattle.track.specs.Image.{trackBytes, withTrack, slotId, slotData, withData}
+use Rattle.track.specs.Image.{withTrack, slotId, slotData, withData}
 use Rattle.track.proofs.Laws.{track-room, slot-room}
 use Rattle.keeping.specs.Keep.{Id, Body, made}
 

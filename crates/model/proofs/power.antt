@@ -2,4 +2,8 @@
 pub mod Reading
 pub mod Passed
 pub mod Restarted
-pub mod Powered
+pub mod Calls
+pub mod Facts
+pub mod ReadAgain
+pub mod SentAgain
+pub mod Moved

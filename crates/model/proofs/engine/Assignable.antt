@@ -2,12 +2,11 @@
 use Prim.Native.Nat.{ℕ, _≤_, _<_}
 use mathlib.Core.Path.{_≡_, refl, sym, ap, _∙_}
 use mathlib.Core.Logic.{_⊎_, inl, inr}
-use mathlib.Core.Bool.{true, false, _||_, true≢false}
+use mathlib.Core.Bool.{true, false, true≢false}
 use mathlib.Core.List.{List}
 use native.Mathlib.Omega.{arith}
 use lib.Dec.{ltb}
 use borrow.Author.Tests.{eqb-true, eqb-false, eq-eqb, ne-eqb, ltb-false, le-ltb}
-use Rattle.base.specs.Pick.{pick}
 use Rattle.base.proofs.Bools.{or-off, not-false}
 use Rattle.base.proofs.Decide.{pick-true, pick-both}
 use Rattle.geometry.specs.declared.params.Lba.{Lba}
@@ -27,7 +26,7 @@ use Rattle.keeping.specs.Keep.{keepCode, Keepable}
 use Rattle.keeping.proofs.Chosen.{may-keep, keepable-code}
 use Rattle.model.specs.declared.block.Block.{Block}
 use Rattle.model.specs.declared.verdict.Verdict.the-variants.{Passed}
-use Rattle.model.specs.Block.{keeps, alternateOf}
+use Rattle.model.specs.Block.{keeps}
 use Rattle.model.specs.Checks.{judged}
 use Rattle.model.specs.Commands.{assignTests, missingIn}
 use Rattle.model.proofs.engine.Judged.{passed-on, judged-on, judged-none}

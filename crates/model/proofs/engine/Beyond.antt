@@ -5,19 +5,15 @@ use mathlib.Core.Path.{_≡_, refl, ap, subst, _∙_}
 use mathlib.Core.List.{List, [], _++_}
 use native.Mathlib.Omega.{arith}
 use lib.ListN.{length}
-use borrow.Author.Tests.{ltb-false}
 use Rattle.base.specs.Part.{part}
-use Rattle.geometry.specs.declared.params.Lba.{Lba}
 use Rattle.geometry.specs.declared.params.Params.{Params}
 use Rattle.geometry.specs.declared.medium.Medium.{Medium}
 use Rattle.geometry.specs.declared.config.Setting.{Setting}
 use Rattle.geometry.specs.declared.config.Setting.the-variants.{Valid, Invalid}
-use Rattle.geometry.specs.Params.{Within, trackCount, imageLength, trackOf, lastAddress}
+use Rattle.geometry.specs.Params.{Within, trackCount, imageLength, trackOf}
 use Rattle.geometry.specs.Medium.{mediumOf}
 use Rattle.geometry.specs.Config.{settingOf, labelRest}
 use Rattle.geometry.proofs.Settings.{setting-within, setting-ten}
-use Rattle.geometry.proofs.Sizes.{sectors-some}
-use Rattle.geometry.proofs.Addresses.{track-in}
 use Rattle.track.specs.Image.{Fits}
 use Rattle.sectors.specs.Transfer.{begun}
 use Rattle.model.specs.declared.block.Block.{Block}
@@ -37,13 +33,12 @@ use Rattle.model.specs.declared.verdict.Verdict.{Verdict}
 use Rattle.model.specs.declared.verdict.Verdict.the-variants.{Refused, Faulty, Passed}
 use Rattle.model.specs.Block.{countOf, alternateOf}
 use Rattle.model.specs.Table.{TableRow, checkNumber, isAmong, rowFor}
-use Rattle.model.specs.Checks.{bytesOf, sizeIn, judged, judge}
+use Rattle.model.specs.Checks.{bytesOf, sizeIn, judge}
 use Rattle.model.specs.Record.{settingIn, unless, Effect, effect, Made, made, unlessNamed}
-use Rattle.model.specs.Commands.{fillOf, driveFormatted, formatDrive, formatTrack, transferred, read, write, assignTests, assignAlternate}
+use Rattle.model.specs.Commands.{fillOf, driveFormatted, formatDrive, formatTrack, transferred, read, write, assignAlternate}
 use Rattle.model.specs.Commands.{doFree, doTrack, doSectors, asEffect, doDisk, carryOut}
 use Rattle.model.specs.Engine.{viewOf, obey}
 use Rattle.model.proofs.engine.Checked.{opcodeFor, row-of, Cleared, cleared, track-cleared, count-cleared}
-use Rattle.model.proofs.engine.Judged.{passed-on}
 use Rattle.model.proofs.engine.Outside.{Outside, outside-self, outside-less, plain-most, fill-most}
 use Rattle.model.proofs.engine.Outside.{made-outside, alternated-outside, drive-outside, drive-label}
 use Rattle.model.proofs.engine.Assignable.{assignable, alternate-in, keepable, missing-kept}

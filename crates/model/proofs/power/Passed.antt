@@ -1,18 +1,16 @@
 -- What it says of an Assign Alternate with keep that it ends well: its checks have passed, and A can be moved to B with its contents.
-use Prim.Native.Nat.{ℕ, _≤_, _<_}
-use mathlib.Core.Path.{_≡_, refl, sym, ap, _∙_}
-use mathlib.Core.Bool.{Bool, true, false, true≢false}
-use mathlib.Core.List.{List, []}
-use native.Mathlib.Omega.{arith}
+use Prim.Native.Nat.{ℕ}
+use mathlib.Core.Path.{_≡_, refl, sym, _∙_}
+use mathlib.Core.Bool.{true, false, true≢false}
+use mathlib.Core.List.{List}
 use lib.ListN.{length}
-use lib.Dec.{ltb}
 use Rattle.base.specs.Pick.{pick}
 use Rattle.base.specs.Byte.{byte}
 use Rattle.base.proofs.Decide.{pick-true}
 use Rattle.geometry.specs.declared.params.Track.{Track}
 use Rattle.geometry.specs.declared.params.Params.{Params}
 use Rattle.geometry.specs.declared.config.Setting.the-variants.{Valid}
-use Rattle.geometry.specs.Params.{trackCount, trackOf}
+use Rattle.geometry.specs.Params.{trackOf}
 use Rattle.geometry.specs.Medium.{mediumOf}
 use Rattle.interleave.specs.Layout.{layoutOf}
 use Rattle.track.specs.Image.{Fits}
@@ -24,19 +22,19 @@ use Rattle.model.specs.declared.table.DiskCommand.the-variants.{TrackWor
 use Rattle.model.specs.declared.table.TrackCommand.the-variants.{AssignAlternate}
 use Rattle.model.specs.declared.record.Drive.{Drive}
 use Rattle.model.specs.declared.verdict.Verdict.{Verdict}
-use Rattle.model.specs.declared.verdict.Verdict.the-variants.{Refused, Faulty, Passed}
+use Rattle.model.specs.declared.verdict.Verdict.the-variants.{Passed}
 use Rattle.model.specs.Block.{keeps, alternateOf}
 use Rattle.model.specs.Table.{checkNumber, isAmong, rowFor}
 use Rattle.model.specs.Checks.{judged, judge}
-use Rattle.model.specs.Record.{settingIn, goodAnswer, refused, failed, good, Effect, effect, Made, made, unlessNamed, unless}
+use Rattle.model.specs.Record.{settingIn, goodAnswer, failed, good, Effect, Made, made, unlessNamed, unless}
 use Rattle.model.specs.Commands.{assignTests, missingIn, alternated, assigned, assignAlternate, fillOf, doTrack, asEffect, doDisk, carryOut}
 use Rattle.model.specs.Engine.{viewOf, obey}
 use Rattle.model.specs.Records.{isGood}
 use Rattle.model.proofs.engine.Checked.{opcodeFor, TrackCleared, one-track}
 use Rattle.model.proofs.engine.Assignable.{Assignable, assignable, keepable, missing-kept}
-use Rattle.model.proofs.engine.Leaving.{Verdicts, second, third, fault, pass, judge-by, assign-judged}
+use Rattle.model.proofs.engine.Leaving.{Verdicts, fault, pass, judge-by, assign-judged}
 use Rattle.model.proofs.engine.Beyond.{w, fits, clear}
-use Rattle.model.proofs.records.Commands.{is-good, not-good}
+use Rattle.model.proofs.records.Commands.{not-good}
 use Rattle.model.proofs.records.Calls.{by-verdict}
 
 -- own checks: with good status they have passed

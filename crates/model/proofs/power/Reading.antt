@@ -1,18 +1,17 @@
 -- A Read on two images with the same contents at its addresses, by entries with the same view: it answers alike, whatever the buffers.
 use Prim.Native.Nat.{ℕ, _+_, _≤_, _<_}
-use mathlib.Core.Path.{_≡_, refl, sym, ap, _∙_}
+use mathlib.Core.Path.{_≡_, refl}
 use mathlib.Core.Bool.{Bool, true, false}
 use mathlib.Core.List.{List, []}
 use native.Mathlib.Omega.{arith}
 use lib.ListN.{length}
 use lib.Dec.{eqb}
 use Rattle.base.specs.Pick.{pick}
-use Rattle.geometry.specs.declared.params.Lba.{Lba}
 use Rattle.geometry.specs.declared.params.Params.{Params}
 use Rattle.geometry.specs.declared.config.Setting.the-variants.{Valid}
 use Rattle.geometry.specs.Params.{Within, OnDrive, addressCount, further}
 use Rattle.geometry.specs.Medium.{mediumOf}
-use Rattle.sectors.specs.Transfer.{Transfer, begun, reading}
+use Rattle.sectors.specs.Transfer.{Transfer, begun}
 use Rattle.contents.specs.Content.{contentOf}
 use Rattle.contents.proofs.Alikes.{Alike, begun-alike, reading-alike}
 use Rattle.model.specs.declared.block.Block.{Block}

@@ -1,11 +1,11 @@
 -- A Reset on images of which one was cut short, but for its label: a label that held the parameters in force puts them in force again.
 use Prim.Native.Nat.{ℕ, _+_, _≤_, _<_}
-use mathlib.Core.Path.{_≡_, refl, sym, ap, _∙_}
+use mathlib.Core.Path.{_≡_, refl, ap, _∙_}
 use mathlib.Core.Bool.{Bool, true, false, false≢true}
 use mathlib.Core.List.{List, []}
 use native.Mathlib.Decide.{decLt}
 use native.Mathlib.Omega.{arith}
-use lib.ListN.{length, getD, set, replicate, List·getD-eq-default}
+use lib.ListN.{length, set, replicate, List·getD-eq-default}
 use lib.Seq.{getD-set-same}
 use Rattle.base.specs.Pick.{pick}
 use Rattle.base.specs.Part.{part}
@@ -17,12 +17,10 @@ use Rattle.geometry.specs.declared.medium.Medium.{Medium}
 use Rattle.geometry.specs.declared.config.Setting.{Setting}
 use Rattle.geometry.specs.declared.config.Setting.the-variants.{Valid, Invalid}
 use Rattle.geometry.specs.Medium.{mediumOf}
-use Rattle.geometry.specs.Config.{settingOf, isValid, labelConfig, labelRest, labelSetting, labelHolds}
+use Rattle.geometry.specs.Config.{settingOf, isValid, labelConfig, labelSetting, labelHolds}
 use Rattle.geometry.proofs.Settings.{setting-within}
 use Rattle.geometry.proofs.Labels.{holds-own}
 use Rattle.model.specs.declared.record.Drive.{Drive}
-use Rattle.model.specs.declared.verdict.View.{View}
-use Rattle.model.specs.Checks.{presentWith}
 use Rattle.model.specs.Record.{driveAt, settingIn}
 use Rattle.model.specs.Engine.{imageOf, viewOf, loadedBy, loaded, fresh}
 use Rattle.model.proofs.engine.Assembled.{fresh-drive}
