@@ -2,6 +2,7 @@
 pub mod Order
 pub mod CopyOrder
 pub mod Assigning
+pub mod Moving
 pub mod Formatting
 pub mod Configurations
 pub mod Initializing

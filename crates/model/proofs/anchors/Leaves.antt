@@ -178,6 +178,25 @@ in-pairs =
     ∷ []
     )
 
+-- ---- Track 1 is moved to 2 with its contents (request E7): what was written there is read; the buffer is neither used nor changed. Before
+-- it track 2 is bad: as A it is 19h with the block's address, as B 1Fh. Bits 4 and 5 together are 22h.
+pub with-contents : List Line
+with-contents =
+    all (
+    (sent (six 0x0A 0 0 37 1 0) (replicate 256 5) (says 0 0 1 0 []) ∷ plain 0x07 70 1 good ∷ [])
+    ∷ tried (sent (six 0x0E 0 0 70 5 0x10) (0 ∷ 0 ∷ 5 ∷ []) bad) (four 0x99 0 0 70) (both 5 2)
+    ∷ tried (sent (six 0x0E 0 0 37 5 0x10) (0 ∷ 0 ∷ 70 ∷ []) bad) (four 0x9F 0 0 70) (both 5 2)
+    ∷ tried (sent (six 0x0E 0 0 37 5 0x30) (0 ∷ 0 ∷ 70 ∷ []) bad) (four 0x22 0 0 0) (both 5 2)
+    ∷ (plain 0x06 70 1 good ∷ [])
+    ∷ tried (sent (six 0x0E 0 0 37 5 0x10) (0 ∷ 0 ∷ 70 ∷ []) good) clear (both 5 2)
+    ∷ tried (plain 0x05 37 5 good) clear (both 5 2)
+    ∷ tried (plain 0x08 70 1 bad) (four 0x9C 0 0 70) (both 5 2)
+    ∷ tried (sent (six 0x0E 0 0 37 5 0x10) (0 ∷ 0 ∷ 5 ∷ []) bad) (four 0x9D 0 0 37) (both 5 2)
+    ∷ tried (plain 0x08 37 1 (says 0 0 1 256 (replicate 256 5))) clear (both 5 2)
+    ∷ tried (plain 0x08 36 1 (says 0 0 1 256 (replicate 256 0x6C))) clear (both 0x6C 2)
+    ∷ []
+    )
+
 -- ---- A code of the order of checks, in commands with and without data
 pub in-order : List Line
 in-order =
@@ -238,12 +257,13 @@ pub leaves : Answers (lengthsOf 25360 25360 0 0) (after-start well-done)
     × Answers (lengthsOf 25360 25360 0 0) (after-start in-order)
     × Answers (lengthsOf 25360 25360 0 0) (after-start turned-away)
     × Answers (lengthsOf 25360 25360 0 0) (after-start reset-all)
+    × Answers (lengthsOf 25360 25360 0 0) (after-start with-contents)
 unfolding both plain good bad within tried clear kept all begun well-done tracks-made moved-bytes cut-short at-fault in-pairs in-order turned-away
-    reset-all after-start told allTold says four six config sent senses lengthsOf Answers pick sameBytes mediumOf isFloppy isIn rangesOf sizeFor
+    reset-all with-contents after-start told allTold says four six config sent senses lengthsOf Answers pick sameBytes mediumOf isFloppy isIn rangesOf sizeFor
     fittedTo fieldsIn settingBy settingOf blockOf countOf fromBuffer keeps rowFor presentWith judge judged inOrder hitsOf isUnknown blockWrong controlWrong
     withParams interleaveWrong pastEnd notSpared isValid reachOf sizeIn bytesOf isAmong checkNumber addressed senseOf freshDisk freshMachine changed
     withSense withBuffer withDisk inForce becomes filled storing failingOn well providingOn isBad isMoved isTaken denied paired parted partedBy
     someParted addressGiven unassignable finished withFirst passing readFrom writeFrom inARow leaving transferBy transfer fillingOn filling fromOn
     reformatted formatDrive checkTrack formatTrack formatBadTrack read write moving assignTo assignAlternate isStored initializeBy freely seeking onTracks
     onSectors withParameters carried settingWith seen ordered restored step replies isWhole blockLength isCopy
-leaves = (refl, refl, refl, refl, refl, refl, refl, refl, refl)
+leaves = (refl, refl, refl, refl, refl, refl, refl, refl, refl, refl)

@@ -44,7 +44,7 @@ use Rattle.model.specs.Claim.{begin, beginMachine, isHeld, Holds, Claim}
 use Rattle.model.proofs.claim.Claimed.{claimed}
 use Rattle.model.proofs.anchors.Session.{Line, allTold, lengthsOf, Answers, six, config, session, worked}
 use Rattle.model.proofs.anchors.Floppies.{lacking, mistaking, formatting, transferring, marking, worked as floppies-worked}
-use Rattle.model.proofs.anchors.Leaves.{leaves, after-start, well-done, tracks-made, moved-bytes, cut-short, at-fault, in-pairs, in-order, turned-away, reset-all}
+use Rattle.model.proofs.anchors.Leaves.{leaves, after-start, well-done, tracks-made, moved-bytes, cut-short, at-fault, in-pairs, in-order, turned-away, reset-all, with-contents}
 
 -- ---- Zeros are no label, of a hard disk or of a floppy: the claim holds for four zero images of any lengths
 abbrev zeros : ℕ → List ℕ
@@ -145,7 +145,7 @@ engine-leaves : EngineAnswers 25360 25360 0 0 (after-start well-done) × EngineA
     × EngineAnswers 25360 25360 0 0 (after-start moved-bytes) × EngineAnswers 25360 25360 0 0 (after-start cut-short)
     × EngineAnswers 25360 25360 0 0 (after-start at-fault) × EngineAnswers 25360 25360 0 0 (after-start in-pairs)
     × EngineAnswers 25360 25360 0 0 (after-start in-order) × EngineAnswers 25360 25360 0 0 (after-start turned-away)
-    × EngineAnswers 25360 25360 0 0 (after-start reset-all)
+    × EngineAnswers 25360 25360 0 0 (after-start reset-all) × EngineAnswers 25360 25360 0 0 (after-start with-contents)
 engine-leaves =
     let answers = engine-answers 25360 25360 0 0 in (
       answers (after-start well-done) (leaves .0),
@@ -157,6 +157,7 @@ engine-leaves =
       answers (after-start in-order) (leaves .6),
       answers (after-start turned-away) (leaves .7),
       answers (after-start reset-all) (leaves .8),
+      answers (after-start with-contents) (leaves .9),
     )
 
 -- ---- What was saved is found: three tracks are formatted, track 1 is moved to 2, and two sectors are written, the last of track 0
