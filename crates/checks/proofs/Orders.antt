@@ -1,6 +1,6 @@
 -- Laws of the checks: control bits, bounds on counts and lengths, what the code's calls come to.
 use mathlib.Core.Path.{_≡_, refl}
-use mathlib.Core.Bool.{Bool, true, not, _&&_, _||_, and-true, and-false}
+use mathlib.Core.Bool.{Bool, true, not, _&&_, _||_, and-true, and-false, or-false}
 use Prim.Native.Nat.{ℕ, _+_, _-_, _*_, _%_, _≤_, _<_}
 use native.Mathlib.Nat.{mul-le-mul}
 use native.Mathlib.Omega.{arith}
@@ -20,21 +20,25 @@ use Rattle.model.specs.declared.verdict.Hits.{Hits}
 use Rattle.model.specs.declared.verdict.Verdict.{Verdict}
 use Rattle.model.specs.declared.verdict.View.{View}
 use Rattle.model.specs.Block.{countOf}
-use Rattle.model.specs.Table.{Check, FillBit, Counted, SparedWhole, TableRow, applies, rowFor}
+use Rattle.model.specs.Table.{Check, FillBit, KeepBit, Counted, SparedWhole, TableRow, applies, rowFor}
 use Rattle.model.specs.Checks.{judged, isUnknown, controlWrong, withParams, pastEnd, notSpared, sizeIn, bytesOf, reachOf, hitsOf, inOrder, judge}
 use Rattle.table.specs.declared.rows.Row.{Row}
 use Rattle.table.specs.Rows.{has, bitOf, Says}
 use Rattle.checks.specs.Legal.{Legal}
 
 -- ---- a control byte, by its seven low bits
-module _ (named : Bool) (control : ℕ) (some : control % 128 ≡ 0 → ⊥) where
-  pub wrong-fill : control % 128 ≡ 32 → not named ≡ controlWrong named control
+module _ (fill keep : Bool) (control : ℕ) (some : control % 128 ≡ 0 → ⊥) where
+  pub wrong-fill : control % 128 ≡ 32 → not fill ≡ controlWrong fill keep control
   unfolding controlWrong
-  wrong-fill h = rw (ne-eqb _ _ some, eq-eqb _ _ h, and-true)
+  wrong-fill h = rw (h, and-true, and-false, or-false)
 
-  pub wrong-other : (control % 128 ≡ 32 → ⊥) → true ≡ controlWrong named control
+  pub wrong-keep : control % 128 ≡ 16 → not keep ≡ controlWrong fill keep control
   unfolding controlWrong
-  wrong-other h = rw (ne-eqb _ _ some, ne-eqb _ _ h, and-false)
+  wrong-keep h = rw (h, and-true, and-false)
+
+  pub wrong-other : (control % 128 ≡ 32 → ⊥) → (control % 128 ≡ 16 → ⊥) → true ≡ controlWrong fill keep control
+  unfolding controlWrong
+  wrong-other h k = rw (ne-eqb _ _ some, ne-eqb _ _ h, ne-eqb _ _ k, and-false fill, and-false keep)
 
 -- ---- the last of `reach` addresses, by the ends behind both
 pub past-by : (p : Params) (a last end there : Lba) (reach : ℕ) (past : Bool) → last ≡ lastAddress p → end ≡ further last 1 → there ≡ further a reach
@@ -73,9 +77,9 @@ module _ {row : Row} {e : TableRow} (says : Says row e) where
       → hit ≡ (applies check e && asked)
   checked check b a h = rw (h, b, a, says .checks check)
 
-  pub control-checked : (control : ℕ) {named wrong : Bool} → named ≡ has (row .checks) (bitOf FillBit) → wrong ≡ controlWrong named control
-      → wrong ≡ controlWrong (applies FillBit e) control
-  control-checked control n w = rw (w, n, says .checks FillBit)
+  pub control-checked : (control : ℕ) {fill keep wrong : Bool} → fill ≡ has (row .checks) (bitOf FillBit) → keep ≡ has (row .checks) (bitOf KeepBit)
+      → wrong ≡ controlWrong fill keep control → wrong ≡ controlWrong (applies FillBit e) (applies KeepBit e) control
+  control-checked control f k w = rw (w, f, k, says .checks FillBit, says .checks KeepBit)
 
   pub held-checked : (setting : Setting) (a : Lba) {whole held : Bool} → whole ≡ has (row .checks) (bitOf SparedWhole)
       → held ≡ withParams setting (notSpared whole a) → held ≡ withParams setting (notSpared (applies SparedWhole e) a)
