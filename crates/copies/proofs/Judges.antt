@@ -63,13 +63,13 @@ held-valid Invalid a = refl
 held-valid (Valid p) a = refl
 
 row-hits : (b : Block) (reach : ℕ) (v : View)
-    → hits false (b .top || controlWrong false (b .control)) (not (v .present)) (not (isValid (v .setting))) false
+    → hits false (b .top || controlWrong false false (b .control)) (not (v .present)) (not (isValid (v .setting))) false
     (withParams (v .setting) (pastEnd (b .address) reach)) (v .pending && withParams (v .setting) (notSpared false (b .address))) false false
     ≡ hitsOf (rowFor 0x20) b reach v 0 0
 unfolding hitsOf rowFor isUnknown blockWrong isAmong checkNumber bytesOf
 row-hits b reach v = refl
 
-pub copy-hits : (b : Block) (reach : ℕ) (v : View) → b .opcode ≡ 0x20 → {control wrong valid past pending : Bool} → control ≡ controlWrong false (b .control)
+pub copy-hits : (b : Block) (reach : ℕ) (v : View) → b .opcode ≡ 0x20 → {control wrong valid past pending : Bool} → control ≡ controlWrong false false (b .control)
     → wrong ≡ (b .top || control) → valid ≡ isValid (v .setting) → past ≡ withParams (v .setting) (pastEnd (b .address) reach)
     → pending ≡ (v .pending && valid) → hits false wrong (not (v .present)) (not valid) false past pending false false ≡ hitsOf (rowFor (b .opcode)) b reach v 0 0
 copy-hits b reach v is ec ew ev ea ep =
