@@ -6,16 +6,24 @@ use Prim.Native.Nat.{ℕ, zero, suc, _+_, _≤_, _<_}
 use native.Mathlib.Omega.{arith}
 use native.Mathlib.Decide.{ℕ-discrete}
 use borrow.Author.Tests.{eq-eqb, ne-eqb}
-use Rattle.base.proofs.Decide.{pick-true, pick-false}
+use Rattle.base.proofs.Decide.{pick-true, pick-false, pick-both}
 use Rattle.geometry.specs.declared.params.Params.{Params}
 use Rattle.geometry.specs.declared.params.Track.{Track}
 use Rattle.geometry.specs.Params.{Within}
 use Rattle.track.specs.declared.find.Where.the-variants.{Off}
-use Rattle.track.specs.Find.{whereOf}
+use Rattle.track.specs.declared.find.Sector.{Sector}
+use Rattle.track.specs.declared.find.Sector.the-variants.{Slot, Fault}
+use Rattle.track.specs.Find.{whereOf, sectorFound}
 use Rattle.track.proofs.Laws.{sector-off, located-code}
-use Rattle.contents.specs.Content.{Content, Missing, contentAt}
+use Rattle.contents.specs.Content.{Content, Missing, contentIn, contentAt}
 use Rattle.keeping.specs.Keep.{codeOf, firstMissing, keepCode}
 use Rattle.keeping.proofs.Reading.{content-off}
+
+-- every code is below 80h
+code-below : (p : Params) (t : Track) (s : ℕ) (image : List ℕ) (f : Sector) → sectorFound p t s image ≡ f → codeOf (contentIn p image f) < 0x80
+unfolding contentIn codeOf
+code-below p t s image (Slot u k) e = omega arith
+code-below p t s image (Fault code) e = located-code p t s image code e .1
 
 pub missing-code : (c : Content) (code : ℕ) → c ≡ Missing code → codeOf c ≡ code
 unfolding codeOf
@@ -45,6 +53,15 @@ module _ (p : Params) (t : Track) (image : List ℕ) where
   pub missing-none : ((s : ℕ) → s < p .sectors → codeOf (contentAt p t s image) ≡ 0) → keepCode p t image ≡ 0
   unfolding keepCode
   missing-none h = from-none (p .sectors) 0 (λ i l. h i (omega arith))
+
+  from-below : (m s : ℕ) → firstMissing p t image m s < 0x80
+  unfolding firstMissing contentAt
+  from-below zero s = omega arith
+  from-below (suc m) s = pick-both (λ (n : ℕ). n < 0x80) _ _ _ (from-below m (suc s)) (code-below p t s image _ refl)
+
+  pub missing-below : keepCode p t image < 0x80
+  unfolding keepCode
+  missing-below = from-below (p .sectors) 0
 
   -- ---- one code for every sector that is missing
   module _ (code : ℕ) where
