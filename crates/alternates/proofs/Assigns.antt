@@ -17,24 +17,26 @@ use Rattle.geometry.specs.Params.{Within, trackCount, trackOf, lastAddress}
 use Rattle.geometry.specs.Medium.{mediumOf}
 use Rattle.geometry.proofs.Addresses.{track-in}
 use Rattle.geometry.proofs.Sizes.{sectors-some}
+use Rattle.interleave.specs.Layout.{layoutOf}
 use Rattle.track.specs.declared.state.State.{State}
 use Rattle.track.specs.declared.state.State.the-variants.{Moved, Taken}
 use Rattle.track.specs.Image.{Fits}
 use Rattle.track.specs.Pair.{stateOf}
 use Rattle.track.specs.State.{isBad, isMoved, isTaken, isTakenByOther}
+use Rattle.keeping.specs.Keep.{keepCode, kept}
 use Rattle.model.specs.declared.block.Block.{Block}
 use Rattle.model.specs.declared.record.Drive.{Drive}
 use Rattle.model.specs.declared.record.Ending.{Ending}
 use Rattle.model.specs.declared.verdict.Verdict.{Verdict}
 use Rattle.model.specs.declared.verdict.Verdict.the-variants.{Refused, Faulty, Passed}
-use Rattle.model.specs.Block.{alternateOf}
+use Rattle.model.specs.Block.{keeps, alternateOf}
 use Rattle.model.specs.Checks.{Test, on, judged}
-use Rattle.model.specs.Record.{refused, failed, good, made}
-use Rattle.model.specs.Commands.{fillOf, plainFill, madeAt, checkTests, assignTests, assigned, missingIn, assignAlternate}
+use Rattle.model.specs.Record.{refused, failed, good, unless, unlessNamed, Made, made}
+use Rattle.model.specs.Commands.{fillOf, plainFill, madeAt, checkTests, assignTests, assigned, missingIn, alternated, assignAlternate}
 use Rattle.model.specs.Premises.{addressLimit}
 use Rattle.model.proofs.engine.Assignable.{assignable, alternate-in}
-use Rattle.model.proofs.engine.Judged.{judged-hit, judged-on, passed-on, fault-in, fault-none}
-use Rattle.endings.proofs.Verdicts.{ends-refused, ends-faulty, ends-well}
+use Rattle.model.proofs.engine.Judged.{judged-hit, judged-on, fault-in, fault-none}
+use Rattle.endings.proofs.Verdicts.{ends-refused, ends-faulty}
 use Rattle.formats.proofs.Makings.{fill-lent}
 
 -- the alternate track is of this drive
@@ -101,9 +103,14 @@ unfolding judged pick ended
 ended-on next true code at tests others e = refl
 ended-on next false code at tests others e = e
 
-ended-last : (next : Verdict) (a : Lba) → next ≡ ended (judged (on (not (eqb 0 0)) 0 a ∷ [])) next
-unfolding judged pick ended
-ended-last next a = refl
+-- the code 0 never hits
+pub none-asked : (a : Lba) → judged (checkTests 0 a) ≡ Passed
+unfolding checkTests judged pick
+none-asked a = refl
+
+ended-last : (next : Verdict) (a : Lba) → next ≡ ended (judged (checkTests 0 a)) next
+unfolding ended
+ended-last next a = rw (none-asked a)
 
 then-missing : (p : Params) (first : ℕ) (a alternate : Lba) (stateA stateB : State) (missing : ℕ)
     → judged (assignTests p first a alternate stateA stateB missing)
@@ -145,35 +152,67 @@ pub alternate-below : (given : List ℕ) (alternate : Lba) → alternate ≡ alt
 unfolding alternateOf
 alternate-below given alternate e h₁ h₂ h₀ = rw e (omega arith)
 
--- ---- what is made, and the three ends
+-- ---- what is made, and the four ends
 pub pair-made : (b : Block) (p : Params) (from to : Track) (plain fill image one left : List ℕ) → part 0 (p .size) plain ≡ plainFill (mediumOf (b .drive)) p
     → one ≡ madeAt b p from (Moved to) (take (p .size - 0) plain) image → left ≡ madeAt b p to (Taken from) fill one
     → left ≡ assigned b p from to fill image
 unfolding assigned
 pair-made b p from to plain fill image one left ep eo el = rw (← ep, ← fill-lent (p .size) plain, ← eo) el
 
+-- with keep: the code of what is missing in A, or A moved
+abbrev pub keptOr : Block → Params → (given : List ℕ) → Drive → (image : List ℕ) → Made
+keptOr b p given entry image =
+    unless (judged (checkTests (keepCode p (trackOf p (b .address)) image) (b .address))) (b .drive) entry (λ e. made e image)
+    (made (good (b .drive) 0 0 entry) (kept p (trackOf p (b .address)) (trackOf p (alternateOf given)) (layoutOf (p .sectors) (b .extra)) image))
+
+-- without: both formatted
+abbrev pub formattedTo : Block → Params → (buffer : List ℕ) → Drive → (to : Track) → (image : List ℕ) → Made
+formattedTo b p buffer entry to image =
+    made (good (b .drive) 0 0 entry) (assigned b p (trackOf p (b .address)) to (fillOf b p buffer) image)
+
+-- the verdict by the bytes given
+pub by-given : (p : Params) (a : Lba) (given image : List ℕ) (alternate : Lba) → alternate ≡ alternateOf given → (verdict : Verdict)
+    → verdict ≡ verdictOn p (byte given 0) a alternate image → verdictOn p (byte given 0) a (alternateOf given) image ≡ verdict
+by-given p a given image alternate ea verdict ev = sym (ev ∙ rw ea)
+
+pub formatted-well : (b : Block) (p : Params) (buffer : List ℕ) (entry : Drive) (image : List ℕ) (r : Ending) (from to : Track) (fill left : List ℕ)
+    → from ≡ trackOf p (b .address) → part 0 (p .size) fill ≡ fillOf b p buffer → left ≡ assigned b p from to (take (p .size - 0) fill) image
+    → r ≡ good (b .drive) 0 0 entry → made r left ≡ formattedTo b p buffer entry to image
+formatted-well b p buffer entry image r from to fill left ef ep el er = rw (er, el, ef, fill-lent (p .size) fill ∙ ep)
+
 module _ (b : Block) (p : Params) (buffer given : List ℕ) (entry : Drive) (image : List ℕ) (r : Ending)
     (alternate : Lba) (ea : alternate ≡ alternateOf given) (verdict : Verdict)
     (ev : verdict ≡ verdictOn p (byte given 0) (b .address) alternate image) where
-  is-verdict : verdictOn p (byte given 0) (b .address) (alternateOf given) image ≡ verdict
-  is-verdict = sym (ev ∙ rw ea)
+  -- what is missing in A
+  abbrev gap : ℕ
+  gap = missingIn b p (trackOf p (b .address)) image
 
-  -- all its checks
-  abbrev whole : Verdict
-  whole =
-      judged
+  -- all its checks, by those before the last
+  whole : (v : Verdict) → verdict ≡ v
+      → judged
       (assignTests p (byte given 0) (b .address) (alternateOf given) (stateOf p (trackOf p (b .address)) image)
-      (stateOf p (trackOf p (alternateOf given)) image) (missingIn b p (trackOf p (b .address)) image))
-
-  ends-as : (v : Verdict) → verdict ≡ v → whole ≡ ended v (judged (checkTests (missingIn b p (trackOf p (b .address)) image) (b .address)))
-  ends-as v e = then-missing p _ _ _ _ _ _ ∙ ap (λ (x : Verdict). ended x _) (is-verdict ∙ e)
+      (stateOf p (trackOf p (alternateOf given)) image) gap)
+      ≡ ended v (judged (checkTests gap (b .address)))
+  whole v e =
+      then-missing p _ _ _ _ _ _
+      ∙ ap (λ (x : Verdict). ended x (judged (checkTests gap (b .address)))) (by-given p (b .address) given image alternate ea verdict ev ∙ e)
 
   pub assign-refused : (number : ℕ) → verdict ≡ Refused number → r ≡ refused number entry
       → made r image ≡ assignAlternate b p buffer given entry image
   unfolding assignAlternate ended
-  assign-refused number e er = ends-refused _ entry image _ r _ number (ends-as _ e) er
+  assign-refused number e er = ends-refused _ entry image _ r _ number (whole _ e) er
 
   pub assign-fails : (code : ℕ) (at : Lba) → verdict ≡ Faulty code at → r ≡ failed (b .drive) (b .drive) code at 0 0 entry
       → made r image ≡ assignAlternate b p buffer given entry image
   unfolding assignAlternate ended
-  assign-fails code at e er = ends-faulty _ entry image _ r _ code at (ends-as _ e) er
+  assign-fails code at e er = ends-faulty _ entry image _ r _ code at (whole _ e) er
+
+  module _ (e : verdict ≡ Passed) (left : List ℕ) where
+    pub assign-keeps : keeps b ≡ true → made r left ≡ keptOr b p given entry image → made r left ≡ assignAlternate b p buffer given entry image
+    unfolding assignAlternate ended missingIn alternated pick
+    assign-keeps keep er = rw (whole _ e, keep) er
+
+    pub assign-formats : keeps b ≡ false → (to : Track) → to ≡ trackOf p alternate → made r left ≡ formattedTo b p buffer entry to image
+        → made r left ≡ assignAlternate b p buffer given entry image
+    unfolding assignAlternate ended missingIn alternated pick unlessNamed
+    assign-formats keep to et er = rw (whole _ e, keep, none-asked (b .address), ← ea, ← et) er

@@ -1,1 +1,2 @@
 pub mod Assigns
+pub mod Keeps

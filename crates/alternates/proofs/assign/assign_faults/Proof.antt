@@ -1,7 +1,7 @@
 use mathlib.Core.Path.{sym, _∙_}
 use borrow.Author.Tests.{ltb-false}
 use Rattle.formats.proofs.Makings.{bound-of}
-use Rattle.alternates.proofs.Assigns.{first-past, alternate-past, pair-judged, alternate-in}
+use Rattle.alternates.proofs.Assigns.{first-past, alternate-past, pair-judged, before-last}
 use borrow.Author.Needs.{needs}
 use Rattle.alternates.proofs.assign.assign_faults.Statement.{statement}
 use Rattle.alternates.proofs.assign.assign_faults.Tie as tie
@@ -36,7 +36,7 @@ state-of-requires-2 c κs =
     let tested = c .before .before .before in
     let bound = tested .before .before in
     let a = bound .before .before .before in
-    let in-drive = alternate-in _ (a .pre .0 .within) _ _ (bound .last-address .ensures) (ltb-false _ _ (sym (tested .before .is-past .ensures) ∙ tested .if2 .left)) in
+    let in-drive = before-last _ (a .pre .0 .within) _ _ (bound .last-address .ensures) (ltb-false _ _ (sym (tested .before .is-past .ensures) ∙ tested .if2 .left)) in
     (a .pre .0, bound-of _ _ _ (c .before .track-of2 .ensures) in-drive)
 
 is-moved-requires : tie.Need-is-moved-requires
@@ -48,8 +48,8 @@ is-taken-requires c κs = search needs
 is-same-requires : tie.Need-is-same-requires
 is-same-requires c κs = search needs
 
-is-taken-requires-2 : tie.Need-is-taken-requires-2
-is-taken-requires-2 c κs = search needs
+is-taken-by-other-requires : tie.Need-is-taken-by-other-requires
+is-taken-by-other-requires c κs = search needs
 
 is-moved-requires-2 : tie.Need-is-moved-requires-2
 is-moved-requires-2 c κs = search needs
@@ -73,7 +73,7 @@ returns-3 c =
     pair-judged _ _ _ _ _ (bound .before .if1 .left) _ (bound .last-address .ensures) (sym (tested .before .is-past .ensures) ∙ tested .if2 .left)
     _ _ (tracks .before .track-of .ensures) (tracks .track-of2 .ensures)
     _ _ (moved .before .before .state-of .ensures) (moved .before .state-of2 .ensures)
-    _ _ _ _ _ _ _ _ (moved .is-moved .ensures) (away .before .before .is-taken .ensures) (away .before .is-same .ensures) (away .is-taken2 .ensures)
+    _ _ _ _ _ _ _ _ (moved .is-moved .ensures) (away .before .before .is-taken .ensures) (away .before .is-same .ensures) (away .is-taken-by-other .ensures)
     (c .before .before .before .is-moved2 .ensures) (c .before .before .is-bad .ensures) (c .before .either .ensures) (c .pair-faults .ensures)
 
 pub assign-faults-spec : {M : Type 1} → statement M
@@ -91,7 +91,7 @@ assign-faults-spec =
     is-moved-requires
     is-taken-requires
     is-same-requires
-    is-taken-requires-2
+    is-taken-by-other-requires
     is-moved-requires-2
     is-bad-requires
     either-requires
