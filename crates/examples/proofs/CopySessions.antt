@@ -9,7 +9,7 @@ use Rattle.base.specs.Pick.{pick}
 use Rattle.base.specs.Same.{sameBytes}
 use Rattle.geometry.specs.Medium.{mediumOf, isFloppy, isIn, rangesOf}
 use Rattle.geometry.specs.Config.{sizeFor, fittedTo, fieldsIn, settingBy, settingOf, isValid}
-use Rattle.model.specs.Block.{blockOf, copyOf, countOf, fromBuffer, isWhole, blockLength, isCopy}
+use Rattle.model.specs.Block.{blockOf, copyOf, countOf, fromBuffer, keeps, isWhole, blockLength, isCopy}
 use Rattle.model.specs.Table.{checkNumber, isAmong, rowFor}
 use Rattle.model.specs.Checks.{judged, presentWith, isUnknown, blockWrong, controlWrong, withParams, interleaveWrong, pastEnd, notSpared, sizeIn, bytesOf, reachOf, hitsOf, inOrder, judge}
 use Rattle.model.specs.Checks.{fillingOf, shares, sayingOf, judgeCopy}
@@ -20,7 +20,7 @@ use Rattle.model.specs.Machine.{well}
 use Rattle.model.specs.Machine.{isBad, isMoved, isTaken, denied, paired, parted, partedBy, someParted, addressGiven, unassignable}
 use Rattle.model.specs.Machine.{finished, withFirst, passing, readFrom, writeFrom, inARow, leaving, transferBy, transfer}
 use Rattle.model.specs.Machine.{fillingOn, filling, fromOn, reformatted}
-use Rattle.model.specs.Machine.{formatDrive, checkTrack, formatTrack, formatBadTrack, read, write, assignTo, assignAlternate, isStored, initializeBy}
+use Rattle.model.specs.Machine.{formatDrive, checkTrack, formatTrack, formatBadTrack, read, write, moving, assignTo, assignAlternate, isStored, initializeBy}
 use Rattle.model.specs.Machine.{freely, seeking, onTracks, onSectors, withParameters, carried, settingWith, seen, ordered, restored, step}
 use Rattle.model.specs.Machine.{hasPassed, sectorsFilled, poured, copyEnds, copyOver, copyBy, orderedCopy}
 use Rattle.model.specs.Claim.{replies}
@@ -360,12 +360,12 @@ worked : Answers (lengthsOf 8464 8856 4368 0) there-and-back × Answers (lengths
     × Answers (lengthsOf 25360 8856 4368 0) in-pairs × Answers (lengthsOf 0 35376 34832 0) count-zero
 unfolding piece pieces asks saves reads sets buffers copies well-copied ill-copied marked still-marked formatted there-and-back filled-up on-one-drive
     in-order lacking bad-source bad-destination both-bad in-pairs count-zero told allTold says four six config sent senses lengthsOf Answers pick sameBytes
-    mediumOf isFloppy isIn rangesOf sizeFor fittedTo fieldsIn settingBy settingOf blockOf copyOf countOf fromBuffer rowFor presentWith judge judged
+    mediumOf isFloppy isIn rangesOf sizeFor fittedTo fieldsIn settingBy settingOf blockOf copyOf countOf fromBuffer keeps rowFor presentWith judge judged
     inOrder hitsOf isUnknown blockWrong controlWrong withParams interleaveWrong pastEnd notSpared isValid reachOf sizeIn bytesOf isAmong checkNumber
     fillingOf shares sayingOf judgeCopy addressed senseOf freshDisk freshMachine changed withSense withBuffer withDisk inForce becomes filled storing
     failingOn well providingOn isBad isMoved isTaken denied paired parted partedBy someParted addressGiven unassignable finished withFirst passing
     readFrom writeFrom inARow leaving transferBy transfer fillingOn filling fromOn reformatted formatDrive checkTrack formatTrack formatBadTrack read
-    write assignTo assignAlternate isStored initializeBy freely seeking onTracks onSectors withParameters carried settingWith seen ordered restored
+    write moving assignTo assignAlternate isStored initializeBy freely seeking onTracks onSectors withParameters carried settingWith seen ordered restored
     hasPassed sectorsFilled poured copyEnds copyOver copyBy orderedCopy step replies isWhole blockLength isCopy
 worked = (refl, refl, refl, refl, refl, refl, refl, refl, refl, refl)
 

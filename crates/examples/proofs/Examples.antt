@@ -20,7 +20,7 @@ use Rattle.geometry.specs.Config.{sizeFor, fittedTo, fieldsIn, settingBy, setti
 use Rattle.interleave.specs.Layout.{emptyFrom, layAt, place, laid, layoutOf}
 use Rattle.track.specs.declared.state.State.the-variants.{Moved, Taken}
 use Rattle.track.specs.Id.{idBytes, idIn, idFor, ownId, withSector}
-use Rattle.track.specs.State.{flagOf, partnerOf, isBad, isMoved, isTaken}
+use Rattle.track.specs.State.{flagOf, partnerOf, isBad, isMoved, isTaken, isTakenByOther}
 use Rattle.track.specs.Image.{trackBytes, withTrack, slotId, slotData, firstId}
 use Rattle.track.specs.Find.{takenBy, whereBy, whereOf, holds, slotUsed, sectorIn, sectorFrom, sectorFound}
 use Rattle.track.specs.Pair.{stateBy, stateOf, oneBelow, splits, pairSplit}
@@ -30,16 +30,16 @@ use Rattle.model.specs.declared.block.Block.{Block}
 use Rattle.model.specs.declared.record.Drive.{Drive}
 use Rattle.model.specs.declared.record.Controller.{Controller}
 use Rattle.model.specs.declared.verdict.Verdict.the-variants.{Faulty, Passed}
-use Rattle.model.specs.Block.{blockOf, countOf, fromBuffer, alternateOf, isCopy, blockLength, isWhole}
+use Rattle.model.specs.Block.{blockOf, countOf, fromBuffer, keeps, alternateOf, isCopy, blockLength, isWhole}
 use Rattle.model.specs.Table.{checkNumber, isAmong, rowFor}
 use Rattle.model.specs.declared.verdict.View.{View}
 use Rattle.model.specs.Checks.{judged, presentWith, isUnknown, blockWrong, controlWrong, withParams, interleaveWrong, pastEnd, notSpared, sizeIn, bytesOf, reachOf, hitsOf, inOrder, judge}
 use Rattle.model.specs.Sense.{addressed, senseOf}
 use Rattle.model.specs.Record.{blankDrive, driveAt, sensed, settingIn, bareAnswer, failed, good, unlessNamed}
 use Rattle.model.specs.Commands.{plainByte, plainFill, fillOf, madeAt, driveFormatted, pendingEnded, formatDrive, transferEnding, transferred, read}
-use Rattle.model.specs.Commands.{assignTests, assigned, assignAlternate, doFree, doTrack, doSectors, asEffect, doDisk, carryOut}
+use Rattle.model.specs.Commands.{assignTests, assigned, missingIn, alternated, assignAlternate, doFree, doTrack, doSectors, asEffect, doDisk, carryOut}
 use Rattle.model.specs.Engine.{viewOf, obey, Result, imagesOf, imageOf, left, onDrive, execute}
-use Rattle.model.specs.Machine.{Kind, freshDisk, becomes, filled, assignTo, parted, partedBy, someParted}
+use Rattle.model.specs.Machine.{Kind, freshDisk, becomes, filled, moving, assignTo, parted, partedBy, someParted}
 
 -- sector s of a track of n, interleave f, is in slot k
 InSlot : (n f s k : ℕ) → Type 0
@@ -111,7 +111,7 @@ formatFrom low = then moved 0x04 0 low 1 [] []
 
 -- the machine's states of tracks
 kinds : Track → Kind
-kinds = assignTo eight (track 3) (track 5) 1 (0x6C ∷ []) (freshDisk 67600) .kind
+kinds = assignTo eight false (track 3) (track 5) 1 (0x6C ∷ []) (freshDisk 67600) .kind
 
 -- (10) Seek on drive 1 to address 20h; then Request Sense, into an area of six bytes
 sought : Result
@@ -152,10 +152,10 @@ unfolding InSlot config lengthOf lengthFor one block four address ready on then 
     flagOf partnerOf idBytes idIn idFor ownId trackBytes withTrack slotId firstId withSector slotMade slotsMade formatted
     stateBy stateOf oneBelow splits pairSplit blockOf countOf rowFor presentWith
     judge judged inOrder hitsOf isUnknown blockWrong controlWrong withParams interleaveWrong pastEnd notSpared isValid reachOf sizeIn bytesOf isAmong checkNumber
-    addressed senseOf blankDrive driveAt sensed settingIn failed good unlessNamed plainByte plainFill fillOf fromBuffer alternateOf madeAt assignTests assigned assignAlternate driveFormatted soundFrom formatDrive pendingEnded asEffect doFree doTrack doSectors doDisk carryOut
-    isBad isMoved isTaken takenBy whereBy whereOf holds slotUsed sectorIn sectorFrom sectorFound slotData begun ended readSlot onward found reading transferEnding transferred read
+    addressed senseOf blankDrive driveAt sensed settingIn failed good unlessNamed plainByte plainFill fillOf fromBuffer keeps alternateOf madeAt assignTests assigned missingIn alternated assignAlternate driveFormatted soundFrom formatDrive pendingEnded asEffect doFree doTrack doSectors doDisk carryOut
+    isBad isMoved isTaken isTakenByOther takenBy whereBy whereOf holds slotUsed sectorIn sectorFrom sectorFound slotData begun ended readSlot onward found reading transferEnding transferred read
     viewOf obey imageOf left onDrive execute isCopy blockLength isWhole
-    freshDisk becomes filled assignTo parted partedBy someParted
+    freshDisk becomes filled moving assignTo parted partedBy someParted
 examples = (
   (refl, refl),
   (refl, refl, refl),

@@ -11,7 +11,7 @@ use Rattle.base.specs.Pick.{pick}
 use Rattle.base.specs.Same.{sameBytes}
 use Rattle.geometry.specs.Medium.{mediumOf, isFloppy, isIn, rangesOf}
 use Rattle.geometry.specs.Config.{sizeFor, fittedTo, fieldsIn, settingBy, settingOf, isValid}
-use Rattle.model.specs.Block.{blockOf, copyOf, countOf, fromBuffer, isWhole, blockLength, isCopy}
+use Rattle.model.specs.Block.{blockOf, copyOf, countOf, fromBuffer, keeps, isWhole, blockLength, isCopy}
 use Rattle.model.specs.Table.{checkNumber, isAmong, rowFor}
 use Rattle.model.specs.Checks.{judged, presentWith, isUnknown, blockWrong, controlWrong, withParams, interleaveWrong, pastEnd, notSpared, sizeIn, bytesOf, reachOf, hitsOf, inOrder, judge}
 use Rattle.model.specs.Checks.{fillingOf, shares, sayingOf, judgeCopy}
@@ -21,7 +21,7 @@ use Rattle.model.specs.Machine.{well}
 use Rattle.model.specs.Machine.{isBad, isMoved, isTaken, denied, paired, parted, partedBy, someParted, addressGiven, unassignable}
 use Rattle.model.specs.Machine.{finished, withFirst, passing, readFrom, writeFrom, inARow, leaving, transferBy, transfer}
 use Rattle.model.specs.Machine.{fillingOn, filling, fromOn, reformatted}
-use Rattle.model.specs.Machine.{formatDrive, checkTrack, formatTrack, formatBadTrack, read, write, assignTo, assignAlternate, isStored, initializeBy}
+use Rattle.model.specs.Machine.{formatDrive, checkTrack, formatTrack, formatBadTrack, read, write, moving, assignTo, assignAlternate, isStored, initializeBy}
 use Rattle.model.specs.Machine.{freely, seeking, onTracks, onSectors, withParameters, carried, settingWith, seen, ordered, restored, step}
 use Rattle.model.specs.Machine.{hasPassed, sectorsFilled, poured, copyEnds, copyOver, copyBy, orderedCopy}
 use Rattle.model.specs.Claim.{replies}
@@ -105,11 +105,11 @@ answered : Answers lens (buffers-1 ∷ own-read 7) × Answers lens (own-read 0)
     × Answers lens (formats 1 1 ++ own-from 0 1) × Answers lens (own-from 2 0)
 unfolding ten buffers-1 formats saves-1 reads-0 read-buffer own-read format-drive own-drive format-track own-track assign own-assign copy-to own-to
     copy-from own-from told allTold says four six config sent lengthsOf Answers pick sameBytes mediumOf isFloppy isIn rangesOf sizeFor fittedTo fieldsIn
-    settingBy settingOf blockOf copyOf countOf fromBuffer rowFor presentWith judge judged inOrder hitsOf isUnknown blockWrong controlWrong withParams
+    settingBy settingOf blockOf copyOf countOf fromBuffer keeps rowFor presentWith judge judged inOrder hitsOf isUnknown blockWrong controlWrong withParams
     interleaveWrong pastEnd notSpared isValid reachOf sizeIn bytesOf isAmong checkNumber fillingOf shares sayingOf judgeCopy addressed senseOf freshDisk
     freshMachine changed withSense withBuffer withDisk inForce becomes filled storing failingOn well providingOn isBad isMoved isTaken denied paired
     parted partedBy someParted addressGiven unassignable finished withFirst passing readFrom writeFrom inARow leaving transferBy transfer fillingOn
-    filling fromOn reformatted formatDrive checkTrack formatTrack formatBadTrack read write assignTo assignAlternate isStored initializeBy freely seeking
+    filling fromOn reformatted formatDrive checkTrack formatTrack formatBadTrack read write moving assignTo assignAlternate isStored initializeBy freely seeking
     onTracks onSectors withParameters carried settingWith seen ordered restored hasPassed sectorsFilled poured copyEnds copyOver copyBy orderedCopy step
     replies isWhole blockLength isCopy
 answered = (refl, refl, refl, refl, refl, refl, refl, refl, refl, refl, refl, refl)
