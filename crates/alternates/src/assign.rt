@@ -1,8 +1,8 @@
 // Assign Alternate.
+use crate::keep::assign_kept;
 use base::logic::either;
 use checks::block::alternate_of;
 use checks::block::keeps_contents;
-use crate::keep::assign_kept;
 use endings::ending::failed;
 use endings::ending::good;
 use endings::ending::refused;

@@ -45,6 +45,13 @@ pub fn assign_kept(entry: Drive, b: Block, p: Params, given: &[u8], image: &mut 
     }
     let n = p.sectors;
     let map = layout(n, b.extra as usize);
-    keep(image, p, from, p.track_of(alternate_of(given)), &map[0..n], &slots);
+    keep(
+        image,
+        p,
+        from,
+        p.track_of(alternate_of(given)),
+        &map[0..n],
+        &slots,
+    );
     good(entry, drive, 0, 0)
 }
