@@ -13,8 +13,7 @@ use Rattle.geometry.specs.Params.{trackCount, trackOf}
 use Rattle.interleave.specs.Layout.{layoutOf}
 use Rattle.track.specs.Image.{Fits}
 use Rattle.keeping.specs.Keep.{keepCode, kept, Mapped, Keepable}
-use Rattle.keeping.proofs.Kept.{layout-maps}
-use Rattle.keeping.proofs.Missing.{missing-below}
+use Rattle.keeping.proofs.Laws.{layout-maps, missing-below}
 use Rattle.model.specs.declared.block.Block.{Block}
 use Rattle.model.specs.declared.record.Drive.{Drive}
 use Rattle.model.specs.declared.record.Ending.{Ending}

@@ -12,6 +12,8 @@ pub use Rattle.formatter.proofs.Sounds.{length-sound, sound-before, sou
 pub use Rattle.formatter.proofs.Formed.{Formed, format-forms, format-fills}
 -- what is formed is found, by its state
 pub use Rattle.formatter.proofs.Formed.{found-sound, found-moved, found-bad, found-taken}
+-- a track formatted as bad is an error of slot 0
+pub use Rattle.formatter.proofs.Formed.{where-bad}
 -- it has its state for the format commands
 pub use Rattle.formatter.proofs.Formed.{state-formed}
 -- Check Track's code, by its state

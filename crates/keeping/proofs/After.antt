@@ -20,7 +20,7 @@ use Rattle.track.proofs.Laws.{id-back, used-holds, unused, taken-one, moved-tak
 use Rattle.contents.specs.Content.{Bytes, readBytes, contentAt}
 use Rattle.keeping.specs.Keep.{Mapped, Keepable}
 use Rattle.keeping.proofs.Reading.{bytes-back, content-some}
-use Rattle.contents.proofs.Pair.{Free, free-written}
+use Rattle.contents.proofs.Laws.{Free, free-written}
 use Rattle.keeping.proofs.Leaving.{Left, left-here, left-there}
 
 module _ (p : Params) (from to : Track) (map image now : List ℕ) (fits : Fits p image) (maps : Mapped (p .sectors) map) (may : Keepable p from to image)

@@ -11,7 +11,7 @@ use Rattle.track.specs.declared.state.State.the-variants.{Sound, Taken}
 use Rattle.track.specs.Image.{firstId}
 use Rattle.track.specs.Pair.{stateOf}
 use Rattle.track.proofs.Laws.{taken-flag, taken-one, sound-taken, home-parts}
-use Rattle.contents.proofs.Pair.{Free, free-state}
+use Rattle.contents.proofs.Laws.{Free, free-state}
 use Rattle.keeping.specs.Keep.{Keepable}
 
 module _ (p : Params) (from to : Track) (image : List ℕ) (may : Keepable p from to image) where

@@ -17,11 +17,10 @@ use Rattle.track.specs.Find.{whereOf}
 use Rattle.track.specs.Pair.{stateBy, stateOf}
 use Rattle.track.proofs.Laws.{id-back, length-with-track, track-same, track-other, taken-one, home-same, state-written}
 use Rattle.contents.specs.Content.{contentAt}
-use Rattle.contents.proofs.Elsewhere.{first-same}
+use Rattle.contents.proofs.Laws.{first-same, Free, free-same, free-written}
 use Rattle.keeping.specs.Keep.{Keepable}
 use Rattle.keeping.proofs.Reading.{content-home}
 use Rattle.keeping.proofs.Copying.{newId, Unmoved}
-use Rattle.contents.proofs.Pair.{Free, free-same, free-written}
 use Rattle.keeping.proofs.Apart.{free-from, free-to}
 
 module _ (p : Params) (from to : Track) (map image now : List ℕ) (fits : Fits p image) (may : Keepable p from to image) (u : Unmoved p from to map image now) where

@@ -18,8 +18,9 @@ use Rattle.track.specs.Pair.{stateOf}
 use Rattle.track.proofs.Laws.{where-state, located-code}
 use Rattle.formatter.proofs.Laws.{Formed, found-sound}
 use Rattle.contents.specs.Content.{Bytes, contentIn, contentAt}
+use Rattle.contents.proofs.Laws.{missing-bytes}
 use Rattle.keeping.specs.Keep.{codeOf, keepCode, Keepable}
-use Rattle.keeping.proofs.Reading.{missing-bytes, content-off, content-slot}
+use Rattle.keeping.proofs.Reading.{content-off, content-slot}
 use Rattle.keeping.proofs.Missing.{none-missing, missing-none}
 
 -- a sector with code 0 has data

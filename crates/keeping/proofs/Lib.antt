@@ -17,3 +17,4 @@ pub mod Chosen
 pub mod Stores
 pub mod Stepping
 pub mod Example
+pub mod Laws

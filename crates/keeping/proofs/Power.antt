@@ -25,12 +25,9 @@ use Rattle.track.specs.declared.find.Sector.the-variants.{Slot}
 use Rattle.sectors.specs.Transfer.{found}
 use Rattle.sectors.proofs.Laws.{found-there}
 use Rattle.contents.specs.Content.{Bytes, contentAt, contentOf}
-use Rattle.contents.proofs.Places.{content-fault}
-use Rattle.contents.proofs.Puts.{by-found}
-use Rattle.contents.proofs.Pair.{Free, pair-elsewhere}
+use Rattle.contents.proofs.Laws.{content-fault, by-found, Free, pair-elsewhere, missing-bytes}
 use Rattle.keeping.specs.Keep.{kept, Mapped, Keepable}
 use Rattle.keeping.specs.Power.{Interrupted}
-use Rattle.keeping.proofs.Reading.{missing-bytes}
 use Rattle.keeping.proofs.Apart.{free-from, free-to}
 use Rattle.keeping.proofs.Before.{from-first, unmoved-from, unmoved-to, unmoved-reads, unmoved-keepable}
 use Rattle.keeping.proofs.After.{first-here, moved-from, moved-to, moved-where, moved-state, moved-reads}

@@ -3,7 +3,6 @@ use mathlib.Core.Path.{_≡_, refl, sym, ap, _∙_}
 use mathlib.Core.Option.{Option, none, some}
 use mathlib.Core.List.{List}
 use Prim.Native.Nat.{ℕ, _≤_, _<_}
-use native.Mathlib.Omega.{arith}
 use lib.ListN.{length}
 use Rattle.geometry.specs.declared.params.Params.{Params}
 use Rattle.geometry.specs.declared.params.Track.{Track}
@@ -13,10 +12,8 @@ use Rattle.track.specs.declared.find.Sector.the-variants.{Slot}
 use Rattle.track.specs.Image.{trackBytes, slotData}
 use Rattle.track.specs.Find.{whereOf, slotUsed, sectorIn, sectorFound}
 use Rattle.track.proofs.Laws.{length-track, length-data, used-holds, sector-on, sector-off}
+use Rattle.contents.proofs.Laws.{missing-bytes}
 use Rattle.contents.specs.Content.{Content, Bytes, Missing, readBytes, contentIn, contentAt}
-
-pub missing-bytes : (code : ℕ) (bytes : List ℕ) → Missing code ≡ Bytes bytes → ⊥
-missing-bytes code bytes e = let z : _≡_ {A = ℕ} 0 1 = cc in omega arith
 
 -- data that are read are all there is
 pub bytes-back : (c : Content) (bytes : List ℕ) → c ≡ Bytes bytes → Bytes (readBytes c) ≡ c

@@ -21,10 +21,7 @@ use Rattle.track.specs.Pair.{stateOf}
 use Rattle.formatter.proofs.Laws.{found-sound}
 use Rattle.contents.specs.Content.{readBytes, contentAt}
 use Rattle.keeping.specs.Keep.{kept, Mapped, Keepable}
-use Rattle.keeping.proofs.Reading.{content-slot}
-use Rattle.keeping.proofs.Chosen.{may-keep, sound-code}
-use Rattle.keeping.proofs.Outside.{same-length, same-beyond, same-track-in}
-use Rattle.keeping.proofs.Kept.{layout-maps, kept-late, kept-there, kept-moved, kept-taken}
+use Rattle.keeping.proofs.Laws.{content-slot, may-keep, sound-code, same-length, same-beyond, same-track-in, layout-maps, kept-late, kept-there, kept-moved, kept-taken}
 use Rattle.model.specs.Machine.{Kind, Disk, sound, moved, taken, becomes, moving, isMoved, isTaken}
 use Rattle.model.specs.Claim.{isHeld}
 use Rattle.model.proofs.claim.Mirrors.{stateFor, homeOf, Mirrors}

@@ -26,11 +26,9 @@ use Rattle.track.specs.declared.state.State.the-variants.{Sound, Bad, Moved, Ta
 use Rattle.track.specs.Pair.{stateOf, oneBelow, splits, pairSplit}
 use Rattle.track.specs.State.{isBad as badState, isMoved as movedState, isTaken as takenState, isTakenByOther as takenByOther}
 use Rattle.formatter.specs.Check.{checkCode}
-use Rattle.formatter.proofs.Formed.{where-bad}
-use Rattle.formatter.proofs.Laws.{state-formed, check-sound, check-moved, check-bad, check-taken}
+use Rattle.formatter.proofs.Laws.{where-bad, state-formed, check-sound, check-moved, check-bad, check-taken}
 use Rattle.keeping.specs.Keep.{keepCode}
-use Rattle.keeping.proofs.Chosen.{sound-code}
-use Rattle.keeping.proofs.Missing.{missing-off}
+use Rattle.keeping.proofs.Laws.{sound-code, missing-off}
 use Rattle.model.specs.declared.verdict.Verdict.{Verdict}
 use Rattle.model.specs.declared.verdict.Verdict.the-variants.{Faulty, Passed}
 use Rattle.model.specs.Checks.{Test, on, judged}

@@ -23,7 +23,7 @@ use Rattle.track.specs.Pair.{stateOf}
 use Rattle.track.proofs.Laws.{home-state}
 use Rattle.contents.proofs.Laws.{NotTaken, FreeFor}
 use Rattle.keeping.specs.Keep.{keepCode, Keepable}
-use Rattle.keeping.proofs.Chosen.{may-keep, keepable-code}
+use Rattle.keeping.proofs.Laws.{may-keep, keepable-code}
 use Rattle.model.specs.declared.block.Block.{Block}
 use Rattle.model.specs.declared.verdict.Verdict.the-variants.{Passed}
 use Rattle.model.specs.Block.{keeps}

@@ -29,8 +29,7 @@ use Rattle.track.specs.Image.{Fits, withTrack}
 use Rattle.formatter.specs.Format.{formatted, soundFrom}
 use Rattle.formatter.proofs.Laws.{formatted-most}
 use Rattle.keeping.specs.Keep.{kept, Keepable}
-use Rattle.keeping.proofs.Outside.{same-length, same-beyond}
-use Rattle.keeping.proofs.Kept.{layout-maps, kept-late}
+use Rattle.keeping.proofs.Laws.{same-length, same-beyond, layout-maps, kept-late}
 use Rattle.model.specs.declared.block.Block.{Block}
 use Rattle.model.specs.Block.{keeps}
 use Rattle.model.specs.Commands.{plainByte, plainFill, fillOf, madeAt, driveFormatted, assigned, alternated}

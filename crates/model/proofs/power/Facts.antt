@@ -18,9 +18,7 @@ use Rattle.track.specs.Image.{Fits}
 use Rattle.track.specs.Pair.{stateOf}
 use Rattle.contents.specs.Content.{contentOf}
 use Rattle.keeping.specs.Keep.{Mapped, Keepable}
-use Rattle.keeping.proofs.Kept.{layout-maps}
-use Rattle.keeping.proofs.Outside.{same-length, same-beyond}
-use Rattle.keeping.proofs.Power.{power}
+use Rattle.keeping.proofs.Laws.{layout-maps, same-length, same-beyond, power}
 use Rattle.model.specs.declared.table.Command.the-variants.{OnDisk}
 use Rattle.model.specs.declared.table.DiskCommand.the-variants.{TrackWork}
 use Rattle.model.specs.declared.table.TrackCommand.the-variants.{AssignAlternate}

@@ -9,7 +9,7 @@ use Rattle.track.specs.Image.{firstId}
 use Rattle.contents.specs.Content.{contentOf}
 use Rattle.track.specs.declared.find.Sector.the-variants.{Slot}
 use Rattle.sectors.specs.Transfer.{found}
-use Rattle.keeping.proofs.Power.{moved-found}
+use Rattle.keeping.proofs.Laws.{moved-found}
 use Rattle.model.specs.declared.record.Controller.{Controller}
 use Rattle.model.specs.Block.{blockOf}
 use Rattle.model.specs.Engine.{imageOf}

@@ -13,7 +13,7 @@ use Rattle.geometry.specs.Params.{Within, OnDrive, addressCount, further}
 use Rattle.geometry.specs.Medium.{mediumOf}
 use Rattle.sectors.specs.Transfer.{Transfer, begun}
 use Rattle.contents.specs.Content.{contentOf}
-use Rattle.contents.proofs.Alikes.{Alike, begun-alike, reading-alike}
+use Rattle.contents.proofs.Laws.{Alike, begun-alike, reading-alike}
 use Rattle.model.specs.declared.block.Block.{Block}
 use Rattle.model.specs.declared.table.Command.the-variants.{OnDisk}
 use Rattle.model.specs.declared.table.DiskCommand.the-variants.{SectorWork}

@@ -11,7 +11,7 @@ use Rattle.interleave.specs.Layout.{layoutOf}
 use Rattle.track.specs.Image.{firstId}
 use Rattle.track.specs.Pair.{stateOf}
 use Rattle.keeping.specs.Keep.{Mapped, Keepable, kept as keptOf}
-use Rattle.keeping.proofs.Power.{again}
+use Rattle.keeping.proofs.Laws.{again}
 use Rattle.model.specs.declared.record.Drive.{Drive}
 use Rattle.model.specs.declared.record.Controller.{Controller}
 use Rattle.model.specs.declared.verdict.Verdict.the-variants.{Passed}

@@ -34,8 +34,7 @@ use Rattle.model.specs.declared.record.Ending.{Ending}
 use Rattle.model.specs.declared.verdict.Verdict.{Verdict}
 use Rattle.model.specs.declared.verdict.Verdict.the-variants.{Passed}
 use Rattle.keeping.specs.Keep.{kept}
-use Rattle.keeping.proofs.Kept.{layout-maps, kept-late}
-use Rattle.keeping.proofs.Power.{power}
+use Rattle.keeping.proofs.Laws.{layout-maps, kept-late, power}
 use Rattle.model.specs.Block.{countOf, keeps, alternateOf}
 use Rattle.model.specs.Checks.{judged}
 use Rattle.model.specs.Record.{failedAnswer, goodAnswer, good, failed, unless, Made, made}
