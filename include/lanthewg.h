@@ -18,7 +18,7 @@
 #include <stddef.h>
 #include <stdint.h>
 
-#define LANTHEWG_VERSION "0.6.1"
+#define LANTHEWG_VERSION "0.7.0"
 
 /* An answer that nobody looks at is a warning, where the compiler can say so. */
 #if defined(__GNUC__)
@@ -63,6 +63,26 @@ enum {
  * - As with a Write, a Copy that fails midway leaves the sectors that it counts; they are not taken back.
  * - LANTHEWG_SENSE_PARTLY_FILLED has the error bit in the status, and lanthewg_is_good says no, though every byte of the source was
  *   written: the source did not fill the last sector, and zeros fill its rest. */
+
+/* Bits of the control byte, the last of a block. Its bit 7 may be set too and does nothing; every other one must be 0. */
+enum {
+    LANTHEWG_CONTROL_KEEP = 0x10,       /* Assign Alternate, see below */
+    LANTHEWG_CONTROL_FROM_BUFFER = 0x20 /* Format Drive, Format Track, Assign Alternate: the fill is the buffer's front, which another
+                                         * drive's command may have left there (hard disks; on a floppy no effect) */
+};
+
+/* Assign Alternate moves track A, the block's, to track B, that of the three bytes given. WITHOUT LANTHEWG_CONTROL_KEEP BOTH ARE
+ * FORMATTED: A'S MAPS ARE LOST. With it A's sectors are copied to B, and A's addresses read as before.
+ *
+ * - What B held is lost, with keep and without: B must be a spare track.
+ * - Every sector of A must be found. Else the command fails, with the code of the first that is not and the block's address, and
+ *   nothing is changed. So a track that was flagged as bad cannot be kept. That the data are what was saved is not asked.
+ * - Not with LANTHEWG_CONTROL_FROM_BUFFER: together they are LANTHEWG_SENSE_NOT_VALID.
+ * - The power may go at any time, and every address outside B still reads as before, if what was changed reaches the medium in this
+ *   order: B's track; the ID of A's slot 0; the rest of A. That is the firmware's part, and not the order of other assignments:
+ *   docs/FIRMWARE.md.
+ * - After a power failure and a Reset send it again, with the same three bytes. LANTHEWG_SENSE_PAIRED with the block's address then
+ *   says that A is moved already. */
 
 /* The numbers of a refusal, in which status, message and counts are 0 and nothing is changed. */
 enum {

@@ -1,7 +1,7 @@
 //! The header's constants under the same names, without `LANTHEWG_` (a test holds them equal).
 
 /// The version of header, wrapper and engine.
-pub const VERSION: &str = "0.6.1";
+pub const VERSION: &str = "0.7.0";
 
 // Byte 0 of a block. Byte 1 has 32 × drive. A block has BLOCK_SIZE bytes, a Copy's COPY_BLOCK_SIZE.
 pub const OPCODE_TEST_READY: u8 = 0x00;
@@ -64,6 +64,54 @@ pub const OPCODE_INITIALIZE: u8 = 0x11;
 /// assert_eq!(card.drives[2].sense, [SENSE_PARTLY_FILLED + SENSE_ADDRESS, 0, 0, 5]);
 /// ```
 pub const OPCODE_COPY: u8 = 0x20;
+
+// Bits of the control byte, the last of a block. Its bit 7 may be set too and does nothing; every
+// other one must be 0.
+/// Of Assign Alternate, which moves track A, the block's, to track B, that of the three bytes given.
+/// **Without this bit both are formatted: A's maps are lost.** With it A's sectors are copied to B, and
+/// A's addresses read as before.
+///
+/// - What B held is lost, with keep and without: B must be a spare track.
+/// - Every sector of A must be found. Else the command fails, with the code of the first that is not
+///   and the block's address, and nothing is changed. So a track that was flagged as bad cannot be
+///   kept. That the data are what was saved is not asked.
+/// - Not with [`CONTROL_FROM_BUFFER`]: together they are [`SENSE_NOT_VALID`].
+/// - The power may go at any time, and every address outside B still reads as before, if what was
+///   changed reaches the medium in this order: B's track; the ID of A's slot 0; the rest of A. That is
+///   the firmware's part, and not the order of other assignments: `docs/FIRMWARE.md`.
+/// - After a power failure and a Reset send it again, with the same three bytes. [`SENSE_PAIRED`] with
+///   the block's address then says that A is moved already.
+///
+/// ```
+/// use lanthewg::*;
+///
+/// // A hard disk of three tracks of 32 sectors, formatted; a map at address 33, which is of track 1.
+/// let mut disk = vec![0; 25_360];
+/// let mut card = Controller::fresh([&disk, &[], &[], &[]]);
+/// let mut area = [0; 256];
+/// let mut call = |block: &[u8], given: &[u8]| {
+///     let answer = card.execute(block, given, &mut area, [&mut disk, &mut [], &mut [], &mut []]);
+///     (answer.is_good(), area[0], card.drives[0].sense)
+/// };
+/// assert!(call(&[OPCODE_INITIALIZE, 0, 0, 0, 0, 0], &[0, 3, 1, 0, 1, 0, 0, 0, 0, 11]).0);
+/// assert!(call(&[OPCODE_FORMAT_DRIVE, 0, 0, 0, 5, 0], &[]).0);
+/// assert!(call(&[OPCODE_WRITE, 0, 0, 33, 1, 0], &[7; 256]).0);
+///
+/// // Track 1 begins to fail. It is moved to track 2, address 64 on, and the map is there.
+/// let keep = [OPCODE_ASSIGN_ALTERNATE, 0, 0, 32, 5, CONTROL_KEEP];
+/// assert!(call(&keep, &[0, 0, 64]).0);
+/// let (good, byte, _) = call(&[OPCODE_READ, 0, 0, 33, 1, 0], &[]);
+/// assert!(good && byte == 7);
+///
+/// // Once more: it is moved already.
+/// let (good, _, sense) = call(&keep, &[0, 0, 64]);
+/// assert!(!good);
+/// assert_eq!(sense, [SENSE_PAIRED + SENSE_ADDRESS, 0, 0, 32]);
+/// ```
+pub const CONTROL_KEEP: u8 = 0x10;
+/// Of Format Drive, Format Track and Assign Alternate: the fill is the buffer's front, which another
+/// drive's command may have left there (hard disks; on a floppy it has no effect).
+pub const CONTROL_FROM_BUFFER: u8 = 0x20;
 
 /// Number: the block is not six bytes, where it begins with [`OPCODE_COPY`] not ten.
 pub const REFUSED_BLOCK: u8 = 1;
