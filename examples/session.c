@@ -130,7 +130,8 @@ static int put_changes(disk *d, size_t from, size_t to) {
     return changed;
 }
 
-/* Writes back what a call changed: the tracks, and when these are on the disk the label (docs/FIRMWARE.md says why so). */
+/* Writes back what a call changed: the tracks, and when these are on the disk the label (docs/FIRMWARE.md says why so). An assignment
+ * that keeps a track's contents has an order of its own, which this is not; no command here is one. */
 static void flush(disk *d) {
     size_t label = d->length < LANTHEWG_LABEL_SIZE ? d->length : LANTHEWG_LABEL_SIZE;
     if (put_changes(d, label, d->length) && fsync(d->file) != 0) give_up(d->name);

@@ -25,8 +25,9 @@ static lanthewg_answer on(uint8_t *image, size_t length, const uint8_t *block, s
 }
 
 /* A command of drive 0 with all the data and area that any takes. */
+static uint8_t control;
 static lanthewg_answer command(uint8_t opcode, uint8_t address, uint8_t extra) {
-    const uint8_t block[LANTHEWG_BLOCK_SIZE] = {opcode, 0, 0, address, extra, 0};
+    const uint8_t block[LANTHEWG_BLOCK_SIZE] = {opcode, 0, 0, address, extra, control};
     return on(disk, LENGTH, block, sizeof block, sizeof given, sizeof area);
 }
 
@@ -93,6 +94,43 @@ static void codes(void) {
     fails(LANTHEWG_SENSE_TAKEN, LANTHEWG_OPCODE_READ, 64, 1);
     fails(LANTHEWG_SENSE_PAIRED, LANTHEWG_OPCODE_FORMAT_TRACK, 32, 1);
     good(LANTHEWG_OPCODE_WRITE, 32, 1);
+}
+
+/* The control bits: a keep leaves what a track holds, without it the track is formatted, with the other bit from the buffer. Which
+ * commands know which bit. */
+static void controls(void) {
+    static const uint8_t opcodes[] = {LANTHEWG_OPCODE_FORMAT_DRIVE, LANTHEWG_OPCODE_CHECK_TRACK, LANTHEWG_OPCODE_FORMAT_TRACK,
+                                      LANTHEWG_OPCODE_FORMAT_BAD_TRACK, LANTHEWG_OPCODE_READ, LANTHEWG_OPCODE_WRITE, LANTHEWG_OPCODE_SEEK};
+    static const struct { uint8_t bits, holds; } ways[] = {
+        {LANTHEWG_CONTROL_KEEP, 0x77}, {LANTHEWG_CONTROL_KEEP + 0x80, 0x77}, {0, 0x6C}, {LANTHEWG_CONTROL_FROM_BUFFER, 0x33}};
+    for (size_t i = 0; i < sizeof ways / sizeof *ways; i++) {
+        good(LANTHEWG_OPCODE_FORMAT_DRIVE, 0, 1);
+        memset(given, 0x77, SLOT);
+        good(LANTHEWG_OPCODE_WRITE, 33, 1);
+        memset(given, 0x33, LANTHEWG_BUFFER_SIZE);
+        good(LANTHEWG_OPCODE_WRITE_BUFFER, 0, 0);
+        memcpy(given, "\0\0\100", LANTHEWG_ALTERNATE_SIZE);
+        control = LANTHEWG_CONTROL_KEEP + LANTHEWG_CONTROL_FROM_BUFFER;
+        fails(LANTHEWG_SENSE_NOT_VALID, LANTHEWG_OPCODE_ASSIGN_ALTERNATE, 32, 1);
+        control = ways[i].bits;
+        good(LANTHEWG_OPCODE_ASSIGN_ALTERNATE, 32, 1);
+        fails(LANTHEWG_SENSE_PAIRED, LANTHEWG_OPCODE_ASSIGN_ALTERNATE, 32, 1);
+        expect(card.drives[0].sense[3] == 32, "the address of a track that is moved already", ways[i].bits);
+        control = 0;
+        good(LANTHEWG_OPCODE_READ, 33, 1);
+        expect(area[0] == ways[i].holds && area[255] == ways[i].holds, "what an assignment leaves", ways[i].bits);
+    }
+    good(LANTHEWG_OPCODE_FORMAT_DRIVE, 0, 1);
+    good(LANTHEWG_OPCODE_FORMAT_BAD_TRACK, 32, 1);
+    control = LANTHEWG_CONTROL_KEEP;
+    fails(LANTHEWG_SENSE_BAD_TRACK, LANTHEWG_OPCODE_ASSIGN_ALTERNATE, 32, 1);
+    for (size_t i = 0; i < sizeof opcodes; i++) fails(LANTHEWG_SENSE_NOT_VALID, opcodes[i], 0, 1);
+    control = LANTHEWG_CONTROL_FROM_BUFFER;
+    for (size_t i = 0; i < sizeof opcodes; i++) {
+        if (opcodes[i] == LANTHEWG_OPCODE_FORMAT_DRIVE || opcodes[i] == LANTHEWG_OPCODE_FORMAT_TRACK) good(opcodes[i], 0, 1);
+        else fails(LANTHEWG_SENSE_NOT_VALID, opcodes[i], 0, 1);
+    }
+    control = 0;
 }
 
 /* A byte of an ID of the disk is damaged, which a Read of an address then meets; then it is put back. */
@@ -280,6 +318,7 @@ int main(void) {
     mended(2, 1, LANTHEWG_SENSE_NO_PARTNER, 3);
     mended(1, 2, LANTHEWG_SENSE_TAKEN, 2);
     label_by_hand();
+    controls();
     lanthewg_fresh(&card, none, 0, none, 0, none, 0, none, 0);
     memset(disk, 0, sizeof disk);
     sizes();

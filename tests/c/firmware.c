@@ -22,8 +22,9 @@ static void expect(int holds, const char *what) {
     if (!holds) { printf("firmware: %s\n", what); failed = 1; }
 }
 
-/* What may change: nothing, data of these tracks, these tracks whole, or the tracks from the first on and the label. */
-typedef enum { NOTHING, DATA, WHOLE, DRIVE } may;
+/* What may change: nothing, data of these tracks, these tracks whole, of the first the IDs and the second whole, or the tracks from the
+ * first on and the label. */
+typedef enum { NOTHING, DATA, WHOLE, KEPT, DRIVE } may;
 
 static int allowed(int drive, may what, int first, int second, size_t at) {
     size_t slot = ID + (drive == HARD ? D : 128), tracks = (drive == HARD ? 32 : 16) * slot;
@@ -31,6 +32,7 @@ static int allowed(int drive, may what, int first, int second, size_t at) {
     if (at < LABEL) return what == DRIVE;
     int track = (int)((at - LABEL) / tracks);
     if (what == DRIVE) return track >= first;
+    if (what == KEPT) return track == second || (track == first && (at - LABEL) % slot < ID);
     return (track == first || track == second) && (what == WHOLE || (at - LABEL) % slot >= ID);
 }
 
@@ -124,6 +126,20 @@ static void transfers(void) {
     command("Write past the end", (uint8_t[]){0x0A, 32, 0, 95, 2, 0}, 0, NOTHING, 0, 0);
 }
 
+/* Track 0 is moved to track 2 with its contents, where all may change, and of track 0 only IDs. */
+static void keeps(void) {
+    static const uint8_t track_2[3] = {0, 0, 64};
+    data(track_2, 0);
+    command("Format Drive before a keep", (uint8_t[]){0x04, 32, 0, 0, 5, 0}, 1, DRIVE, 0, 0);
+    command("Write before a keep", (uint8_t[]){0x0A, 32, 0, 3, 2, 0}, 1, DATA, 0, 0);
+    command("Format Bad Track before a keep", (uint8_t[]){0x07, 32, 0, 32, 5, 0}, 1, WHOLE, 1, 1);
+    data(track_2, sizeof track_2);
+    command("keep of a bad track", (uint8_t[]){0x0E, 32, 0, 32, 1, LANTHEWG_CONTROL_KEEP}, 0, NOTHING, 0, 0);
+    command("keep", (uint8_t[]){0x0E, 32, 0, 0, 1, LANTHEWG_CONTROL_KEEP}, 1, KEPT, 0, 2);
+    command("keep again", (uint8_t[]){0x0E, 32, 0, 0, 1, LANTHEWG_CONTROL_KEEP}, 0, NOTHING, 0, 0);
+    command("Write to a kept track", (uint8_t[]){0x0A, 32, 0, 3, 2, 0}, 1, DATA, 2, 2);
+}
+
 static void others(void) {
     static const uint8_t opcodes[] = {0x00, 0x01, 0x03, 0x0B, 0x0F, 0x10, 0x02};
     for (size_t i = 0; i < sizeof opcodes; i++)
@@ -209,6 +225,7 @@ int main(void) {
     others();
     floppies();
     copies();
+    keeps();
     refusals();
     own_sense();
     expect(((uintptr_t)card() & 1) && ((uintptr_t)image(1) & 1) && ((uintptr_t)image(2) & 1), "the addresses are not odd");
