@@ -133,6 +133,51 @@ static void controls(void) {
     control = 0;
 }
 
+/* A keep of track 1 to track 2 where something is wrong with track 1: the code of finding, with the block's address, and nothing is
+ * changed. Then track 2 as an assignment that the power ended leaves it, taken by track 1: free for that track, with keep and without,
+ * and for nothing else. */
+static void keeps(void) {
+    static const struct { uint8_t code; int slot, byte; uint8_t value; } spoilt[] = {
+        {LANTHEWG_SENSE_NO_ID, 0, MARK, 0}, {LANTHEWG_SENSE_OTHER_TRACK, 0, CYLINDER, 2}, {LANTHEWG_SENSE_UNKNOWN_FLAG, 0, FLAG, 4},
+        {LANTHEWG_SENSE_BAD_TRACK, 0, FLAG, 1}, {LANTHEWG_SENSE_NO_SECTOR, 31, SECTOR, 5}, {LANTHEWG_SENSE_NO_SECTOR, 5, MARK, 0}};
+    static uint8_t formatted[LENGTH], was[LENGTH];
+    uint8_t *track_1 = disk + LANTHEWG_LABEL_SIZE + SECTORS * SLOT, *track_2 = track_1 + SECTORS * SLOT;
+    good(LANTHEWG_OPCODE_FORMAT_DRIVE, 0, 1);
+    memset(given, 0x77, SLOT);
+    good(LANTHEWG_OPCODE_WRITE, 33, 1);
+    memcpy(given, "\0\0\100", LANTHEWG_ALTERNATE_SIZE);
+    memcpy(formatted, disk, sizeof disk);
+    for (size_t i = 0; i < sizeof spoilt / sizeof *spoilt; i++) {
+        track_1[spoilt[i].slot * SLOT + spoilt[i].byte] = spoilt[i].value;
+        memcpy(was, disk, sizeof disk);
+        control = LANTHEWG_CONTROL_KEEP;
+        fails(spoilt[i].code, LANTHEWG_OPCODE_ASSIGN_ALTERNATE, 40, 1);
+        expect(card.drives[0].sense[3] == 40 && memcmp(disk, was, sizeof disk) == 0, "a keep that fails", spoilt[i].code);
+        control = 0;
+        good(LANTHEWG_OPCODE_ASSIGN_ALTERNATE, 40, 1);
+        memcpy(disk, formatted, sizeof disk);
+    }
+    for (uint8_t bits = 0; bits <= LANTHEWG_CONTROL_KEEP; bits += LANTHEWG_CONTROL_KEEP) {
+        track_2[FLAG] = 3;
+        track_2[PARTNER] = 1;
+        control = bits;
+        fails(LANTHEWG_SENSE_PAIRED, LANTHEWG_OPCODE_ASSIGN_ALTERNATE, 0, 1);
+        expect(card.drives[0].sense[3] == 64, "B's address where it is another's", bits);
+        control = 0;
+        fails(LANTHEWG_SENSE_TAKEN, LANTHEWG_OPCODE_READ, 64, 1);
+        fails(LANTHEWG_SENSE_TAKEN, LANTHEWG_OPCODE_FORMAT_TRACK, 64, 1);
+        fails(LANTHEWG_SENSE_TAKEN, LANTHEWG_OPCODE_FORMAT_BAD_TRACK, 64, 1);
+        fails(LANTHEWG_SENSE_PAIRED, LANTHEWG_OPCODE_FORMAT_DRIVE, 64, 1);
+        good(LANTHEWG_OPCODE_READ, 33, 1);
+        control = bits;
+        good(LANTHEWG_OPCODE_ASSIGN_ALTERNATE, 32, 1);
+        control = 0;
+        good(LANTHEWG_OPCODE_READ, 33, 1);
+        expect(area[0] == (bits ? 0x77 : 0x6C), "an assignment to a track that was left taken", bits);
+        memcpy(disk, formatted, sizeof disk);
+    }
+}
+
 /* A byte of an ID of the disk is damaged, which a Read of an address then meets; then it is put back. */
 static void damage(unsigned code, int slot, int byte, uint8_t value, uint8_t address) {
     uint8_t *at = disk + LANTHEWG_LABEL_SIZE + slot * SLOT + byte, was = *at;
@@ -319,6 +364,7 @@ int main(void) {
     mended(1, 2, LANTHEWG_SENSE_TAKEN, 2);
     label_by_hand();
     controls();
+    keeps();
     lanthewg_fresh(&card, none, 0, none, 0, none, 0, none, 0);
     memset(disk, 0, sizeof disk);
     sizes();

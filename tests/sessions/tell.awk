@@ -44,6 +44,7 @@ function command_of(frame,    copy, drive) {
     if (length(frame) < (copy ? 20 : 12) || frame ~ /[^0-9A-Fa-f]/) return "a frame"
     drive = drive_in(frame, 1)
     return (toupper(byte(frame, 0)) in commands ? commands[toupper(byte(frame, 0))] : "command " byte(frame, 0)) \
+        (toupper(byte(frame, 0)) == "0E" && int(number(byte(frame, 5)) / 16) % 2 ? " with keep" : "") \
         (copy ? " from drive " drive " to drive " drive_in(frame, 5) : drive > 0 ? " of drive " drive : "")
 }
 function meaning(frame, answer,    data, failed) {
@@ -64,7 +65,7 @@ BEGIN {
     split("04 there is no such drive|0A the drive has no parameters|10 the track's ID has no known flag|12 the track has no ID|" \
         "14 the track does not hold this sector|15 the track's ID is that of another track|" \
         "16 the parameters are pending: Reset brings the disk's own back; a format from track 0 loses everything|19 the track is flagged as bad|" \
-        "1A the track was not formatted with this interleave|1C the track is in use as an alternate|1D one of a pair would be freed|" \
+        "1A the track was not formatted with this interleave|1C the track is in use as an alternate|1D one of a pair would be freed or used twice|" \
         "1E the track's alternate does not name it back|1F the alternate is moved or bad|20 there is no such command|" \
         "21 the address is past the end|22 block or data are not valid|" \
         "23 all is copied, and zeros complete this last sector", rows, "|")
