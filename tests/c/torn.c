@@ -283,7 +283,8 @@ static void marked_tracks(const test *t, way order) {
     expect_safe(t, "blocks torn");
 }
 
-/* A keep, blocks that come over whole: the alternate; the block with the ID of the track's slot 0, or of it these 8 bytes alone; the rest. */
+/* A keep, blocks that come over whole: the alternate; the block with the ID of the track's slot 0, or of it these 8 bytes alone; the
+ * rest. */
 static void whole_kept(const test *t, int block, way order, int slot_0) {
     int id = front(t->is, t->track);
     begin(t);
@@ -444,7 +445,7 @@ int main(void) {
     }
     otherwise(&tests[0], &tests[3], &tests[6], &tests[8], &tests[9]);
     if (failed) return 1;
-    printf("torn: %ld flushes that stopped showed no other record, and the command could be given again; after %ld of a keep all read as before\n",
-           all, kept);
+    printf("torn: %ld flushes that stopped showed no other record, and the command could be given again;"
+           " after %ld of a keep all read as before\n", all, kept);
     return 0;
 }
