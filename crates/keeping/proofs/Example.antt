@@ -2,6 +2,7 @@
 use Prim.Native.Nat.{ℕ}
 use mathlib.Core.Path.{_≡_, refl}
 use mathlib.Core.List.{List, [], _∷_, _++_, map}
+use native.Mathlib.Omega.{arith}
 use lib.ListN.{replicate}
 use Rattle.base.specs.Pick.{pick}
 use Rattle.base.specs.Part.{part, splice}
@@ -17,6 +18,7 @@ use Rattle.track.specs.Find.{takenBy, whereBy, whereOf, holds, slotUsed, sector
 use Rattle.track.specs.Pair.{stateBy, stateOf}
 use Rattle.sectors.specs.Transfer.{found}
 use Rattle.contents.specs.Content.{Content, Bytes, Missing, readBytes, contentIn, contentAt, contentOf}
+use Rattle.keeping.specs.Power.{bytesOf, withBytes, mayTear, torn, finished, Interrupted}
 use Rattle.keeping.specs.Keep.{Id, Body, codeOf, firstMissing, keepCode, made, writeWith, writeOf, afterWrites, kept}
 
 p : Params
@@ -89,6 +91,16 @@ sent-again : (stateOf p (track 1) half ≡ Sound) × (stateOf p (track 2) half �
 unfolding half kept keepCode firstMissing codeOf stateOf stateBy p slot ofA ofB image old after layoutOf laid place layAt emptyFrom afterWrites made writeOf writeWith pick splice part contentAt contentIn readBytes sectorFound sectorFrom sectorIn whereOf
     whereBy firstId slotId slotData trackBytes idIn ownId takenBy slotUsed firstBelow firstFrom holds idBytes idFor flagOf partnerOf
 sent-again = (refl, refl, refl, refl)
+
+-- it is what power can leave, at write 3; and so is the end, at the last write
+half-cut : Interrupted p (track 1) (track 2) (layoutOf 3 2) old half
+unfolding half bytesOf withBytes mayTear p slot ofA ofB image old after layoutOf laid place layAt emptyFrom afterWrites made writeOf writeWith pick splice part contentAt contentIn readBytes sectorFound sectorFrom sectorIn whereOf
+    whereBy firstId slotId slotData trackBytes idIn ownId takenBy slotUsed firstBelow firstFrom holds idBytes idFor flagOf partnerOf
+half-cut = record { i = 3; within = omega arith; cut = torn (98 ∷ 99 ∷ []) refl refl refl }
+
+whole-cut : Interrupted p (track 1) (track 2) (layoutOf 3 2) old (after 9)
+unfolding after afterWrites p
+whole-cut = record { i = 8; within = omega arith; cut = finished refl }
 
 -- once slot 0 of track 1 is written it is moved; track 0 is refused for its sector 1
 settled : (map (λ (i : ℕ). stateOf p (track 1) (after i)) (6 ∷ 7 ∷ []) ≡ Sound ∷ Moved (track 2) ∷ []) × (keepCode p (track 0) old ≡ 0x14)

@@ -1,4 +1,4 @@
--- The image after a whole move: A and B have the IDs of a format, B has A's data in their slots, and A's data stay.
+-- The image after a whole move: A and B have the IDs of a format, and B has A's data in their slots.
 use mathlib.Core.Path.{_≡_, refl, ap, _∙_}
 use mathlib.Core.List.{List}
 use Prim.Native.Nat.{ℕ, suc, _+_, _-_, _*_, _≤_, _<_}
@@ -46,10 +46,6 @@ module _ (p : Params) (from to : Track) (map image : List ℕ) (fits : Fits p im
       by : Dec (i < p .sectors * 3) → Interrupted p from to map image (afterWrites p from to map image i)
       by (yes l) = record { i = i; within = l; cut = unbegun refl }
       by (no l) = let e : i ≡ p .sectors * 3 = omega arith in rw e kept-late
-
-  -- A's data stay
-  pub kept-here : (k : ℕ) → k < p .sectors → slotData p k (trackBytes p from (kept p from to map image)) ≡ slotData p k (trackBytes p from image)
-  kept-here k h = ap (slotData p k) (left-here p from to map image fits maps may _ _ kept-left) ∙ kept-left .bodies k h
 
   -- B's slot k has A's sector of that slot
   pub kept-there : (k : ℕ) → k < p .sectors → slotData p k (trackBytes p to (kept p from to map image)) ≡ readBytes (contentAt p from (getD map k 0) image)

@@ -1,5 +1,5 @@
 -- A move from A's slot 0 on: B is whole, and the image differs from the old one in A's and B's stretches alone.
-use mathlib.Core.Path.{_≡_, refl, sym, ap, _∙_}
+use mathlib.Core.Path.{_≡_, sym, ap, _∙_}
 use mathlib.Core.List.{List}
 use Prim.Native.Nat.{ℕ, zero, suc, _+_, _*_, _≤_, _<_}
 use native.Mathlib.Omega.{arith}
@@ -11,10 +11,10 @@ use Rattle.geometry.specs.declared.params.Track.{Track}
 use Rattle.geometry.specs.Params.{trackCount, trackSize, imageLength}
 use Rattle.track.specs.declared.state.State.the-variants.{Moved}
 use Rattle.track.specs.Id.{idBytes, idFor}
-use Rattle.track.specs.Image.{Fits, trackBytes, withTrack, slotId, slotData}
+use Rattle.track.specs.Image.{Fits, trackBytes, withTrack, slotId}
 use Rattle.track.proofs.Laws.{id-length, track-back, length-track, length-with-track, track-same, track-other}
 use Rattle.keeping.specs.Keep.{made, leaveId, afterWrites, Mapped, Keepable}
-use Rattle.keeping.proofs.Writes.{withId, length-with-id, id-same, id-other, data-kept, made-id}
+use Rattle.keeping.proofs.Writes.{withId, length-with-id, id-same, id-other, made-id}
 use Rattle.keeping.proofs.Order.{leave-more}
 use Rattle.keeping.proofs.Copying.{Copied, CopiedAt, copied}
 use Rattle.keeping.proofs.Before.{unmoved-track}
@@ -23,7 +23,7 @@ use Rattle.keeping.proofs.Before.{unmoved-track}
 abbrev pub leftId : Params → (from to : Track) → (map : List ℕ) → (k : ℕ) → List ℕ
 leftId p from to map k = idBytes (idFor p from (Moved to) (getD map k 0))
 
--- B is whole, A's first j IDs say where it has moved, and A's data are the old ones
+-- B is whole, and A's first j IDs say where it has moved
 pub record Left (p : Params) (from to : Track) (map image now : List ℕ) (j : ℕ) : Type 0 where
   pub there : List ℕ
   pub here : List ℕ
@@ -32,7 +32,6 @@ pub record Left (p : Params) (from to : Track) (map image now : List ℕ) (j : �
   pub is : now ≡ withTrack p from here (withTrack p to there image)
   pub copied : Copied p from to map image there (p .sectors * 2)
   pub ids : (k : ℕ) → k < p .sectors → k < j → slotId p k here ≡ leftId p from to map k
-  pub bodies : (k : ℕ) → k < p .sectors → slotData p k here ≡ slotData p k (trackBytes p from image)
 
 module _ (p : Params) (from to : Track) (map image : List ℕ) (fits : Fits p image) (maps : Mapped (p .sectors) map) (may : Keepable p from to image) where
   pub there-fits : (there : List ℕ) → length there ≡ trackSize p → imageLength p ≤ length (withTrack p to there image)
@@ -53,7 +52,6 @@ module _ (p : Params) (from to : Track) (map image : List ℕ) (fits : Fits p im
         is = u .is ∙ sym (ap (λ (bytes : List ℕ). withTrack p from bytes other) (sym same′) ∙ track-back p other (there-fits (u .stretch) (u .long)) from (may .from-in));
         copied = c .1;
         ids = λ k h l. absurd (omega arith);
-        bodies = λ k h. refl;
       }
 
   left-more : (now next : List ℕ) (j : ℕ) → next ≡ made p (leaveId p from to map j) now → j < p .sectors → Left p from to map image now j → Left p from to map image next (suc j)
@@ -66,7 +64,6 @@ module _ (p : Params) (from to : Track) (map image : List ℕ) (fits : Fits p im
         ∙ made-id p from j (leftId p from to map j) (x .here) (withTrack p to (x .there) image) (there-fits (x .there) (x .there-long)) (may .from-in) hj (x .here-long) (id-length _);
     copied = x .copied;
     ids = λ k h l. by k h l (ℕ-discrete j k);
-    bodies = λ k h. data-kept p (x .here) (x .here-long) j (leftId p from to map j) hj (id-length _) k ∙ x .bodies k h;
   }
     where
       by : (k : ℕ) → k < p .sectors → k < suc j → Dec (j ≡ k) → slotId p k (withId p j (leftId p from to map j) (x .here)) ≡ leftId p from to map k

@@ -1,6 +1,7 @@
 -- An interrupted move: either A's slot 0 is not written yet, or B is whole and A's slot 0 says so.
 use mathlib.Core.Path.{_≡_, sym, ap, _∙_}
 use mathlib.Core.Logic.{_⊎_, inl, inr}
+use mathlib.Core.Bool.{true, false≢true}
 use mathlib.Core.List.{List}
 use Prim.Native.Nat.{ℕ, suc, _+_, _-_, _*_, _<_}
 use native.Mathlib.Omega.{arith}
@@ -9,41 +10,41 @@ use lib.ListN.{length}
 use Rattle.geometry.specs.declared.params.Params.{Params}
 use Rattle.geometry.specs.declared.params.Track.{Track}
 use Rattle.track.specs.Image.{Fits}
-use Rattle.keeping.specs.Keep.{Write, Id, Body, made, copyBody, sectorsOf, writeOf, afterWrites, Mapped, Keepable}
-use Rattle.keeping.specs.Power.{Cut, unbegun, finished, torn, Interrupted}
+use Rattle.keeping.specs.Keep.{Write, Id, Body, made, writeOf, afterWrites, Mapped, Keepable}
+use Rattle.keeping.specs.Power.{mayTear, bytesOf, withBytes, Cut, unbegun, finished, torn, Interrupted}
 use Rattle.keeping.proofs.Order.{halves, write-id, write-body, write-leave, writes-more, leave-more}
 use Rattle.keeping.proofs.Copying.{body-length, Unmoved, unmoved-body, copied}
 use Rattle.keeping.proofs.Leaving.{Left, left}
 
-id-body : (t u : Track) (k j : ℕ) (x y : List ℕ) → Id t k x ≡ Body u j y → ⊥
-id-body t u k j x y e = let z : _≡_ {A = ℕ} 0 1 = cc in omega arith
+-- an ID is not torn
+id-whole : (w : Write) (t : Track) (k : ℕ) (bytes : List ℕ) → w ≡ Id t k bytes → mayTear w ≡ true → ⊥
+unfolding mayTear
+id-whole w t k bytes e may = false≢true (sym (ap mayTear e) ∙ may)
 
-body-track : (t u : Track) (k j : ℕ) (x y : List ℕ) → Body t k x ≡ Body u j y → t ≡ u
-body-track t u k j x y e = cc
-
-body-slot : (t u : Track) (k j : ℕ) (x y : List ℕ) → Body t k x ≡ Body u j y → k ≡ j
-body-slot t u k j x y e = cc
-
-body-bytes : (t u : Track) (k j : ℕ) (x y : List ℕ) → Body t k x ≡ Body u j y → x ≡ y
-body-bytes t u k j x y e = cc
+-- data may be anything of their length
+torn-body : (p : Params) (w : Write) (t : Track) (k : ℕ) (bytes any now after : List ℕ) → w ≡ Body t k bytes → length any ≡ length (bytesOf w) → after ≡ made p (withBytes any w) now
+    → (length any ≡ length bytes) × (after ≡ made p (Body t k any) now)
+unfolding bytesOf withBytes
+torn-body p w t k bytes any now after e l z = (l ∙ ap (λ (v : Write). length (bytesOf v)) e, z ∙ ap (λ (v : Write). made p (withBytes any v) now) e)
 
 module _ (p : Params) (from to : Track) (map image : List ℕ) (fits : Fits p image) (maps : Mapped (p .sectors) map) (may : Keepable p from to image) where
   -- data under way in B's slot
   torn-copy : (now after : List ℕ) (i k : ℕ) → k < p .sectors → (i ≡ k * 2) ⊎ (i ≡ k * 2 + 1) → Unmoved p from to map image now
-      → (t : Track) (j : ℕ) (bytes any : List ℕ) → writeOf p from to map image i ≡ Body t j bytes → length any ≡ length bytes → after ≡ made p (Body t j any) now → Unmoved p from to map image after
-  torn-copy now after i k h (inl e) u t j bytes any w l z = absurd (id-body _ _ _ _ _ _ (sym (ap (writeOf p from to map image) e ∙ write-id p from to map image k h) ∙ w))
-  torn-copy now after i k h (inr e) u t j bytes any w l z =
-      let same : copyBody to map (sectorsOf p from image) k ≡ Body t j bytes = sym (ap (writeOf p from to map image) e ∙ write-body p from to map image k h) ∙ w in
-      let long : length any ≡ p .size = l ∙ ap length (sym (body-bytes _ _ _ _ _ _ same)) ∙ body-length p from to map image fits maps may k h in
-      rw (z, ← body-track _ _ _ _ _ _ same, ← body-slot _ _ _ _ _ _ same) (unmoved-body p from to map image fits maps may now u k h any long)
+      → (any : List ℕ) → mayTear (writeOf p from to map image i) ≡ true → length any ≡ length (bytesOf (writeOf p from to map image i))
+      → after ≡ made p (withBytes any (writeOf p from to map image i)) now → Unmoved p from to map image after
+  torn-copy now after i k h (inl e) u any tear l z =
+      absurd (id-whole _ _ _ _ (ap (writeOf p from to map image) e ∙ write-id p from to map image k h) tear)
+  torn-copy now after i k h (inr e) u any tear l z =
+      let r = torn-body p _ to k _ any now after (ap (writeOf p from to map image) e ∙ write-body p from to map image k h) l z in
+      rw (r .1) (unmoved-body p from to map image fits maps may now u k h any (r .0 ∙ body-length p from to map image fits maps may k h))
 
   -- a write of B's is cut short
   pub cut-copy : (after : List ℕ) (i : ℕ) → i < p .sectors * 2 → Cut p (writeOf p from to map image i) (afterWrites p from to map image i) after → Unmoved p from to map image after
   cut-copy after i h (unbegun e) = rw e (copied p from to map image fits maps may i (omega arith) .0)
   cut-copy after i h (finished e) = rw (e ∙ sym (writes-more p from to map image i)) (copied p from to map image fits maps may (suc i) (omega arith) .0)
-  cut-copy after i h (torn t j bytes any w l z) =
+  cut-copy after i h (torn any tear l z) =
       let k = halves i in
-      torn-copy (afterWrites p from to map image i) after i (k .0) (below (k .0) (k .1)) (k .1) (copied p from to map image fits maps may i (omega arith) .0) t j bytes any w l z
+      torn-copy (afterWrites p from to map image i) after i (k .0) (below (k .0) (k .1)) (k .1) (copied p from to map image fits maps may i (omega arith) .0) any tear l z
     where
       below : (k : ℕ) → (i ≡ k * 2) ⊎ (i ≡ k * 2 + 1) → k < p .sectors
       below k (inl e) = omega arith
@@ -55,7 +56,7 @@ module _ (p : Params) (from to : Track) (map image : List ℕ) (fits : Fits p im
   cut-leave after j h (unbegun e) = inl e
   cut-leave after j h (finished e) =
       inr (e ∙ ap (λ (w : Write). made p w (afterWrites p from to map image (p .sectors * 2 + j))) (write-leave p from to map image j h) ∙ sym (leave-more p from to map image j h))
-  cut-leave after j h (torn t k bytes any w l z) = absurd (id-body _ _ _ _ _ _ (sym (write-leave p from to map image j h) ∙ w))
+  cut-leave after j h (torn any tear l z) = absurd (id-whole _ _ _ _ (write-leave p from to map image j h) tear)
 
   abbrev pub LeftSome : (after : List ℕ) → Type 0
   LeftSome after = (j : ℕ) × (0 < j) × Left p from to map image after j

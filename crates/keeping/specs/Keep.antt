@@ -20,7 +20,7 @@ use Rattle.track.specs.Find.{whereOf, sectorFound}
 use Rattle.track.specs.Pair.{stateOf}
 use Rattle.contents.specs.Content.{Content, Bytes, Missing, readBytes, contentAt}
 
--- ---- A must be sound with every sector found, else the error for the first missing one
+-- ---- A must be sound with every sector found, else the error for the first missing one. (A moved A is 1Dh, before this is asked.)
 -- The code that says why a sector is missing, or 0.
 unfoldable pub codeOf : Content → ℕ
 codeOf (Bytes sector) = 0
@@ -83,7 +83,7 @@ afterWrites p from to map image (suc i) = made p (writeOf p from to map image i)
 unfoldable pub kept : Params → (from to : Track) → (map image : List ℕ) → List ℕ
 kept p from to map image = afterWrites p from to map image (p .sectors * 3)
 
--- ---- What the code goes by
+-- ---- What code and theorems go by
 -- A is sound with every sector found; B is another track, neither bad nor moved nor taken by another than A.
 pub record Keepable (p : Params) (from to : Track) (image : List ℕ) : Type 0 where
   pub from-in : from .0 < trackCount p

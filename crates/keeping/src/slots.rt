@@ -1,4 +1,5 @@
-// Whether a track can be moved with its contents, and the slot of each of its sectors. Each slot's ID is looked at once, before any write.
+// Whether a track can be moved with its contents, and the slot of each of its sectors. Each slot is looked at once for its sector, before any
+// write.
 use geometry::params::Params;
 use geometry::params::Track;
 use track::find::Where;

@@ -7,3 +7,5 @@ pub mod Facts
 pub mod ReadAgain
 pub mod SentAgain
 pub mod Moved
+pub mod Uncut
+pub mod Labelled

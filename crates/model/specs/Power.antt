@@ -1,6 +1,7 @@
 -- Request E7, power failure: while Assign Alternate moves a track A to a track B with its contents, power may fail at any point. Whatever
--- the controller, the images, damaged or not, and the point: after a Reset every Read of that drive outside B answers as it would have
--- before the command, and the console can go on: either the command can be sent again, or A is moved.
+-- the controller, the images, damaged or not, and the point, if the drive's label holds the parameters in force: after a Reset every Read
+-- of that drive outside B answers as it would have before the command, and the console can go on: either the command can be sent again,
+-- or A is moved.
 use Prim.Native.Nat.{ℕ, _<_}
 use mathlib.Core.Path.{_≡_}
 use mathlib.Core.Bool.{true}
@@ -29,6 +30,7 @@ use Rattle.model.specs.Table.{rowFor}
 use Rattle.model.specs.Record.{driveAt, settingIn}
 use Rattle.model.specs.Engine.{imageOf, execute, resetOf}
 use Rattle.model.specs.Records.{Is}
+use Rattle.model.specs.Claim.{Call, begin, engineAtEnd}
 
 -- ---- The command: Assign Alternate of drive d with keep, which would end well; parameters p are in force, and the drive's label holds them.
 pub record Keeping (c : Controller) (block given area : List ℕ) (images : List (List ℕ)) (d : ℕ) (p : Params) : Type 0 where
@@ -54,6 +56,20 @@ leftImages d images cut = set images d cut
 
 abbrev pub restarted : (images : List (List ℕ)) → Controller
 restarted images = resetOf images .controller
+
+-- What the command leaves where power does not fail is the last of these.
+unfoldable pub RunsToTheEnd : Type 0
+RunsToTheEnd =
+    (c : Controller) (block given area : List ℕ) (images : List (List ℕ)) (d : ℕ) (p : Params) → Keeping c block given area images d p
+    → CutShort p block given (imageOf d images) (imageOf d (execute c block given area images .images))
+
+-- From every fresh start, on any images, the label holds the parameters in force wherever the command runs.
+unfoldable pub FromFresh : Type 0
+FromFresh =
+    (images : List (List ℕ)) (calls : List Call) (block given area : List ℕ) (d : ℕ) → d < 4
+    → let s = engineAtEnd (begin images) calls in
+    Is (OnDisk (TrackWork AssignAlternate)) d block (execute (s .controller) block given area (s .images) .outcome .answer) → keeps (blockOf block) ≡ true
+    → (p : Params) × Keeping (s .controller) block given area (s .images) d p
 
 -- ---- A Read of drive d, of sectors outside track B. How far it goes on the drive is not asked.
 pub record ReadOutside (block : List ℕ) (d : ℕ) (p : Params) (B : Track) : Type 0 where

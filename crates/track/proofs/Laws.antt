@@ -13,8 +13,8 @@ pub use Rattle.track.proofs.Images.{length-with-data, data-same, data-o
 -- slots of one size side by side, one after the other
 pub use Rattle.track.proofs.Finds.{id-lent, slot-end, place-more}
 -- ---- IDs
--- eight bytes; what is written is read; its cylinder and head are the track's own; another sector of the same track
-pub use Rattle.track.proofs.Ids.{id-length, id-back, own-for, sector-for}
+-- eight bytes; what is written is read; another sector of the same track
+pub use Rattle.track.proofs.Ids.{id-length, id-back, sector-for}
 -- ---- Finding: where the search for a track's sectors goes on
 -- on a track of the drive
 pub use Rattle.track.proofs.Finds.{where-in}

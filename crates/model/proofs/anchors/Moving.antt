@@ -4,6 +4,7 @@ use Prim.Native.Nat.{ℕ}
 use mathlib.Core.Path.{_≡_, refl}
 use mathlib.Core.Bool.{true, false}
 use mathlib.Core.List.{List, [], _∷_, _++_, map}
+use native.Mathlib.Omega.{arith}
 use lib.ListN.{replicate}
 use Rattle.base.specs.Pick.{pick}
 use Rattle.base.specs.Part.{part, splice, rows}
@@ -19,6 +20,7 @@ use Rattle.track.specs.Find.{takenBy, whereBy, whereOf, holds, slotUsed, sector
 use Rattle.track.specs.Pair.{stateBy, stateOf}
 use Rattle.formatter.specs.Format.{slotMade, slotsMade, formatted}
 use Rattle.contents.specs.Content.{readBytes, contentIn, contentAt}
+use Rattle.keeping.specs.Power.{mayTear, bytesOf, withBytes, torn, finished}
 use Rattle.keeping.specs.Keep.{codeOf, firstMissing, keepCode, made, writeWith, writeOf, afterWrites, kept}
 use Rattle.model.specs.declared.table.Command.the-variants.{OnDisk}
 use Rattle.model.specs.declared.table.DiskCommand.the-variants.{TrackWork}
@@ -26,6 +28,8 @@ use Rattle.model.specs.declared.table.TrackCommand.the-variants.{AssignA
 use Rattle.model.specs.declared.record.Drive.{Drive}
 use Rattle.model.specs.Block.{blockOf, fromBuffer, keeps, alternateOf}
 use Rattle.model.specs.Checks.{judged}
+use Rattle.model.specs.Power.{CutShort}
+use Rattle.model.specs.Records.{oneTrack, onTracks}
 use Rattle.model.specs.Sense.{addressed, senseOf}
 use Rattle.model.specs.Record.{sensed, good, failed, unlessNamed, Effect}
 use Rattle.model.specs.Commands.{plainByte, plainFill, fillOf, madeAt, assignTests, missingIn, assigned, alternated, assignAlternate, doTrack, asEffect, doDisk, carryOut}
@@ -43,14 +47,22 @@ ofA s flag partner x y = slot 0xA1 0 0 1 s flag 0 partner x y
 ofB : (s flag partner x y : ℕ) → List ℕ
 ofB s flag partner x y = slot 0xA1 0 0 2 s flag 0 partner x y
 
--- label; track 0, whose slot 0 has lost its mark; tracks 1 and 2, slot by slot; a byte past the last track
+-- label; track 0 with this slot 0; tracks 1 and 2, slot by slot; a byte past the last track
+under : (first a b c d e f : List ℕ) → List ℕ
+under first a b c d e f =
+    replicate 16 0xEE ++ (first ++ slot 0xA1 0 0 0 1 0 0 0 3 4 ++ slot 0xA1 0 0 0 2 0 0 0 5 6) ++ (a ++ b ++ c) ++ (d ++ e ++ f) ++ (0xEE ∷ [])
+
+-- slot 0 of track 0 has lost its mark
 image : (a b c d e f : List ℕ) → List ℕ
-image a b c d e f =
-    replicate 16 0xEE ++ (slot 0xFF 0 0 0 0 0 0 0 1 2 ++ slot 0xA1 0 0 0 1 0 0 0 3 4 ++ slot 0xA1 0 0 0 2 0 0 0 5 6) ++ (a ++ b ++ c) ++ (d ++ e ++ f) ++ (0xEE ∷ [])
+image a b c d e f = under (slot 0xFF 0 0 0 0 0 0 0 1 2) a b c d e f
 
 -- track 1 has sectors 1, 2, 0 in its slots; track 2 is sound, but has lost sector 1
 old : List ℕ
 old = image (ofA 1 0 0 11 12) (ofA 2 0 0 21 22) (ofA 0 0 0 31 32) (ofB 0 0 0 7 7) (ofB 2 0 0 8 8) (ofB 2 0 0 9 9)
+
+-- the same, with another slot 0 of track 0
+old-under : List ℕ → List ℕ
+old-under first = under first (ofA 1 0 0 11 12) (ofA 2 0 0 21 22) (ofA 0 0 0 31 32) (ofB 0 0 0 7 7) (ofB 2 0 0 8 8) (ofB 2 0 0 9 9)
 
 -- power has failed: one slot of track 2 is written, and the data of the next are torn
 half : List ℕ
@@ -84,7 +96,7 @@ moves :
     -- a taken track 2 whose partner is track 1 is free for it without keep too: both are formatted
     × (left (sent 3 0 6 half)
     ≡ image (ofA 0 2 2 0x6C 0x6C) (ofA 2 2 2 0x6C 0x6C) (ofA 1 2 2 0x6C 0x6C) (ofB 0 3 1 0x6C 0x6C) (ofB 2 3 1 0x6C 0x6C) (ofB 1 3 1 0x6C 0x6C) ++ (71 ∷ 72 ∷ 73 ∷ []))
-unfolding p slot ofA ofB image old half moved controller sent left saying layoutOf laid place layAt emptyFrom carryOut doDisk doTrack asEffect assignAlternate assignTests missingIn alternated assigned
+unfolding p slot ofA ofB under image old old-under half moved controller sent left saying layoutOf laid place layAt emptyFrom carryOut doDisk doTrack asEffect assignAlternate assignTests missingIn alternated assigned
     keeps keepCode firstMissing codeOf kept afterWrites made writeOf writeWith madeAt plainByte plainFill fillOf fromBuffer mediumOf isFloppy blockOf alternateOf judged unlessNamed
     good failed sensed senseOf addressed isBad isMoved isTaken isTakenByOther stateOf stateBy withTrack formatted slotsMade slotMade withSector rows pick splice part
     contentAt contentIn readBytes sectorFound sectorFrom sectorIn whereOf whereBy firstId slotId slotData trackBytes idIn ownId takenBy slotUsed firstBelow firstFrom holds
@@ -98,9 +110,30 @@ refused :
     ≡ (0 ∷ 2 ∷ 0 ∷ 0 ∷ 0x94 ∷ 0 ∷ 0 ∷ 8 ∷ []) ∷ (0 ∷ 2 ∷ 0 ∷ 0 ∷ 0x92 ∷ 0 ∷ 0 ∷ 2 ∷ []) ∷ (0 ∷ 2 ∷ 0 ∷ 0 ∷ 0x9D ∷ 0 ∷ 0 ∷ 6 ∷ []) ∷ (0 ∷ 2 ∷ 0 ∷ 0 ∷ 0x9F ∷ 0 ∷ 0 ∷ 4 ∷ []) ∷ [])
     × (map left (sent 8 0x10 3 old ∷ sent 2 0x10 6 old ∷ []) ≡ replicate 2 (old ++ (71 ∷ 72 ∷ 73 ∷ [])))
     × (saying (sent 8 0 3 old) ≡ replicate 8 0)
-unfolding p slot ofA ofB image old half moved controller sent left saying layoutOf laid place layAt emptyFrom carryOut doDisk doTrack asEffect assignAlternate assignTests missingIn alternated assigned
+    -- slot 0 with another head, with flag 4, with flag 1
+    × (map (λ (first : List ℕ). saying (sent 1 0x10 6 (old-under first))) (slot 0xA1 0 0 1 0 0 0 0 1 2 ∷ slot 0xA1 0 0 0 0 4 0 0 1 2 ∷ slot 0xA1 0 0 0 0 1 0 0 1 2 ∷ [])
+    ≡ (0 ∷ 2 ∷ 0 ∷ 0 ∷ 0x95 ∷ 0 ∷ 0 ∷ 1 ∷ []) ∷ (0 ∷ 2 ∷ 0 ∷ 0 ∷ 0x90 ∷ 0 ∷ 0 ∷ 1 ∷ []) ∷ (0 ∷ 2 ∷ 0 ∷ 0 ∷ 0x99 ∷ 0 ∷ 0 ∷ 1 ∷ []) ∷ [])
+unfolding p slot ofA ofB under image old old-under half moved controller sent left saying layoutOf laid place layAt emptyFrom carryOut doDisk doTrack asEffect assignAlternate assignTests missingIn alternated assigned
     keeps keepCode firstMissing codeOf kept afterWrites made writeOf writeWith madeAt plainByte plainFill fillOf fromBuffer mediumOf isFloppy blockOf alternateOf judged unlessNamed
     good failed sensed senseOf addressed isBad isMoved isTaken isTakenByOther stateOf stateBy withTrack formatted slotsMade slotMade withSector rows pick splice part
     contentAt contentIn readBytes sectorFound sectorFrom sectorIn whereOf whereBy firstId slotId slotData trackBytes idIn ownId takenBy slotUsed firstBelow firstFrom holds
     idBytes idFor flagOf partnerOf
-refused = (refl, refl, refl)
+refused = (refl, refl, refl, refl)
+
+-- ---- What power can leave of it: the image above with data torn at its write 3, and its end
+block : List ℕ
+block = 0x0E ∷ 0 ∷ 0 ∷ 3 ∷ 2 ∷ 0x10 ∷ []
+
+cuts : CutShort p block (0 ∷ 0 ∷ 6 ∷ []) old half × CutShort p block (0 ∷ 0 ∷ 6 ∷ []) old moved
+unfolding block mayTear bytesOf withBytes p slot ofA ofB under image old old-under half moved controller sent left saying layoutOf laid place layAt emptyFrom carryOut doDisk doTrack asEffect assignAlternate assignTests missingIn alternated assigned
+    keeps keepCode firstMissing codeOf kept afterWrites made writeOf writeWith madeAt plainByte plainFill fillOf fromBuffer mediumOf isFloppy blockOf alternateOf judged unlessNamed
+    good failed sensed senseOf addressed isBad isMoved isTaken isTakenByOther stateOf stateBy withTrack formatted slotsMade slotMade withSector rows pick splice part
+    contentAt contentIn readBytes sectorFound sectorFrom sectorIn whereOf whereBy firstId slotId slotData trackBytes idIn ownId takenBy slotUsed firstBelow firstFrom holds
+    idBytes idFor flagOf partnerOf
+cuts = (record { i = 3; within = omega arith; cut = torn (98 ∷ 99 ∷ []) refl refl refl }, record { i = 8; within = omega arith; cut = finished refl })
+
+-- ---- What it names, of tracks 0, 1 and 2: with keep B's addresses alone
+naming : map (λ (control : ℕ). map (λ (a : ℕ). onTracks p (blockOf (0x0E ∷ 0 ∷ 0 ∷ 3 ∷ 2 ∷ control ∷ [])) (0 ∷ 0 ∷ 8 ∷ []) (record { 0 = a }) AssignAlternate) (2 ∷ 3 ∷ 5 ∷ 6 ∷ 8 ∷ [])) (0 ∷ 0x10 ∷ 0x20 ∷ 0x90 ∷ [])
+    ≡ (false ∷ true ∷ true ∷ true ∷ true ∷ []) ∷ (false ∷ false ∷ false ∷ true ∷ true ∷ []) ∷ (false ∷ true ∷ true ∷ true ∷ true ∷ []) ∷ (false ∷ false ∷ false ∷ true ∷ true ∷ []) ∷ []
+unfolding p onTracks oneTrack keeps blockOf alternateOf
+naming = refl

@@ -23,9 +23,9 @@ module _ (images : List (List ℕ)) (calls : List Call) (drive : ℕ) where
   abbrev image : List ℕ
   image = imageOf drive (atLast .images)
 
-  pending-labels : entry .known ≡ true → entry .pending ≡ not (labelHolds (mediumOf drive) image (entry .config))
+  pub pending-labels : entry .known ≡ true → entry .pending ≡ not (labelHolds (mediumOf drive) image (entry .config))
   pending-labels known = from-fresh images calls .drives drive known
 
   -- so a drive whose parameters are in force and not pending has those that its label holds
-  settled-labels : entry .known ≡ true → entry .pending ≡ false → labelHolds (mediumOf drive) image (entry .config) ≡ true
+  pub settled-labels : entry .known ≡ true → entry .pending ≡ false → labelHolds (mediumOf drive) image (entry .config) ≡ true
   settled-labels known calm = not-false _ (sym (pending-labels known) ∙ calm)

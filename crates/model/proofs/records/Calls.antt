@@ -171,10 +171,9 @@ module _ (b : Block) (given : List ℕ) (area : ℕ) (entry : Drive) (buffer ima
       (λ x n. (λ i l. absurd (omega (arith, n .none)), λ ok. absurd (true≢false (sym ok ∙ n .bad))))
       (λ passed. rw (valid, is) (written-given b given area entry buffer image passed p valid is))
 
--- ---- A Write with good status
-module _ (b : Block) (given : List ℕ) (area : ℕ) (entry : Drive) (buffer image : List ℕ)
-    (is : rowFor (b .opcode) .command ≡ OnDisk (SectorWork Write)) where
-  -- without parameters there is none
+-- ---- A command on the disk with good status had parameters
+module _ (b : Block) (given : List ℕ) (area : ℕ) (entry : Drive) (buffer image : List ℕ) (command : DiskCommand)
+    (is : rowFor (b .opcode) .command ≡ OnDisk command) where
   never-good : settingIn (mediumOf (b .drive)) entry (length image) ≡ Invalid
       → isGood (b .drive) (obey b given area entry buffer image .ending .answer) ≡ false
   unfolding obey viewOf carryOut failed
@@ -182,12 +181,15 @@ module _ (b : Block) (given : List ℕ) (area : ℕ) (entry : Drive) (buffer ima
       by-verdict (λ (e : Effect). isGood (b .drive) (e .ending .answer) ≡ false) (b .drive) entry buffer image _ (judge-by b _ (length given) area)
       (λ x n. n .bad) (λ passed. rw (none, is) (not-good (b .drive) 0 0))
 
-  obey-good : (s : Setting) → settingIn (mediumOf (b .drive)) entry (length image) ≡ s
+  by-setting : (s : Setting) → settingIn (mediumOf (b .drive)) entry (length image) ≡ s
       → isGood (b .drive) (obey b given area entry buffer image .ending .answer) ≡ true
       → (p : Params) × (settingIn (mediumOf (b .drive)) entry (length image) ≡ Valid p)
-      × (obey b given area entry buffer image .ending .answer .sectors ≡ countOf b)
-  obey-good Invalid e ok = absurd (true≢false (sym ok ∙ never-good e))
-  obey-good (Valid p) e ok = (p, e, obey-writes b given area entry buffer image p e is .1 ok)
+  by-setting Invalid e ok = absurd (true≢false (sym ok ∙ never-good e))
+  by-setting (Valid p) e ok = (p, e)
+
+  pub good-setting : isGood (b .drive) (obey b given area entry buffer image .ending .answer) ≡ true
+      → (p : Params) × (settingIn (mediumOf (b .drive)) entry (length image) ≡ Valid p)
+  good-setting = by-setting _ refl
 
 -- ---- Any call
 module _ (c : Controller) (block given area : List ℕ) (images : List (List ℕ)) where
@@ -285,8 +287,9 @@ good-writes c block given area images six is ok =
     let image = imageOf (b .drive) images in
     let other = other-row block _ is (λ e. let z : _≡_ {A = ℕ} 0 1 = cc in omega arith) in
     let left-it = one-drive c block given area images (six-whole block other six) other in
-    let r = obey-good b given (length area) entry (c .buffer) image is _ refl (rw (left-it, its-answer c block given area images) at ok) in
-    (r .0, r .1, rw (left-it, its-answer c block given area images) (r .2))
+    let good = rw (left-it, its-answer c block given area images) at ok in
+    let r = good-setting b given (length area) entry (c .buffer) image (SectorWork Write) is good in
+    (r .0, r .1, rw (left-it, its-answer c block given area images) (obey-writes b given (length area) entry (c .buffer) image (r .0) (r .1) is .1 good))
 
 -- Of a drive without parameters no byte changes.
 pub none-without-parameters : NoneWithoutParameters
