@@ -20,9 +20,9 @@ use Rattle.contents.specs.Content.{Bytes, Missing, contentOf, put}
 -- the laws' words
 pub use Rattle.contents.proofs.Terms.{dataStart, Stands, stands, Given, ForTracks, NotTaken, FreeFor, trackMade, pairMade, driveMade}
 unfoldable pub use Rattle.contents.proofs.Terms.{bytesAt, putAll}
--- what is at an address: by what is found there, data or a code, and the two told apart
+-- what is at an address: a sector of its track; by what is found there data or a code, and the two told apart
 pub use Rattle.contents.proofs.Puts.{by-found, missing-bytes}
-pub use Rattle.contents.proofs.Places.{content-fault}
+pub use Rattle.contents.proofs.Places.{content-at, content-fault}
 -- Reads of images with the same contents say the same of all but their images
 pub use Rattle.contents.proofs.Alikes.{Alike, begun-alike, reading-alike}
 -- what slot 0 says goes by the track's bytes

@@ -11,14 +11,19 @@ use Rattle.base.proofs.Parts.{part-before, part-after, part-part, splice-splice
 use Rattle.geometry.specs.declared.params.Params.{Params}
 use Rattle.geometry.specs.declared.params.Lba.{Lba}
 use Rattle.geometry.specs.declared.params.Track.{Track}
-use Rattle.geometry.specs.Params.{trackCount, slotSize, trackSize, trackStart}
+use Rattle.geometry.specs.Params.{trackCount, slotSize, trackSize, trackStart, trackOf, sectorOf}
 use Rattle.geometry.proofs.Addresses.{same-track}
 use Rattle.track.specs.Image.{Fits, trackBytes, withTrack, slotData, withData}
 use Rattle.track.specs.declared.find.Sector.the-variants.{Slot, Fault}
 use Rattle.track.proofs.Laws.{track-room}
 use Rattle.sectors.specs.Transfer.{found}
-use Rattle.contents.specs.Content.{Bytes, Missing, contentIn, contentOf, putIn, put}
+use Rattle.contents.specs.Content.{Bytes, Missing, contentIn, contentAt, contentOf, putIn, put}
 use Rattle.contents.proofs.Terms.{dataStart}
+
+-- an address is a sector of its track
+pub content-at : (p : Params) (a : Lba) (image : List ℕ) → contentOf p a image ≡ contentAt p (trackOf p a) (sectorOf p a) image
+unfolding contentOf contentAt found
+content-at p a image = refl
 
 -- ---- by what is found
 module _ (p : Params) (a : Lba) (image : List ℕ) where

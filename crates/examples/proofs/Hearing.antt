@@ -38,7 +38,7 @@ heard-told d s [] = refl
 heard-told d s (call ∷ calls) = pick-map (concerns d call) toldOf (heardOf (leftBy s call)) _ _ (heard-told d (called s call .1) calls)
 
 -- ---- Answers that are as written are the written ones
-told-is : (replies : List Reply) (lines : List Line) → allTold replies lines ≡ true → map told replies ≡ map (λ (l : Line). l .answer) lines
+pub told-is : (replies : List Reply) (lines : List Line) → allTold replies lines ≡ true → map told replies ≡ map (λ (l : Line). l .answer) lines
 unfolding allTold
 told-is [] [] e = refl
 told-is [] (l ∷ lines) e = absurd (false≢true e)

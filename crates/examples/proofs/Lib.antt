@@ -5,3 +5,4 @@ pub mod CopyRecords
 pub mod Hearing
 pub mod Exclusions
 pub mod Departments
+pub mod Moves

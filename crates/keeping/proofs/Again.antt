@@ -51,11 +51,11 @@ module _ (p : Params) (from to : Track) (map image : List ℕ) (fits : Fits p im
       ∙ ap (λ (x : List ℕ). made p (copyBody to map (sectorsOf p from image) k) (made p (copyId p from to map k) x)) (slots-written k (omega arith))
       ∙ slot-step k (rows (newSlot p from to map image) k) (omega arith) (length-rows (newSlot p from to map image) (slotSize p) k (λ i l. slot-long i (omega arith)))
 
-  pub whole-written : afterWrites p from to map image (p .sectors * 2) ≡ withTrack p to (rows (newSlot p from to map image) (p .sectors)) image
+  whole-written : afterWrites p from to map image (p .sectors * 2) ≡ withTrack p to (rows (newSlot p from to map image) (p .sectors)) image
   unfolding withTrack
   whole-written = slots-written (p .sectors) (omega arith)
 
-  pub whole-long : length (rows (newSlot p from to map image) (p .sectors)) ≡ trackSize p
+  whole-long : length (rows (newSlot p from to map image) (p .sectors)) ≡ trackSize p
   whole-long = length-rows (newSlot p from to map image) (slotSize p) (p .sectors) slot-long
 
 -- ---- from an image while B is written; the map may be another one

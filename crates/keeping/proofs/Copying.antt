@@ -44,7 +44,7 @@ module _ (p : Params) (from to : Track) (map image : List ℕ) (fits : Fits p im
       let w = may .whole (getD map k 0) (maps .below k h) in
       content-length p from from (getD map k 0) image (may .home) (fits .long) (may .from-in) (w .0) (w .1)
 
-  pub unmoved-none : Unmoved p from to map image image
+  unmoved-none : Unmoved p from to map image image
   unmoved-none = record {
     stretch = trackBytes p to image;
     long = length-track p image (fits .long) to (may .to-in);
@@ -54,7 +54,7 @@ module _ (p : Params) (from to : Track) (map image : List ℕ) (fits : Fits p im
 
   module _ (now : List ℕ) (u : Unmoved p from to map image now) (k : ℕ) (h : k < p .sectors) where
     -- B's slot k gets its ID
-    pub unmoved-id : Unmoved p from to map image (made p (copyId p from to map k) now)
+    unmoved-id : Unmoved p from to map image (made p (copyId p from to map k) now)
     unmoved-id = record {
       stretch = withId p k (newId p from to map k) (u .stretch);
       long = length-with-id p (u .stretch) (u .long) k (newId p from to map k) h (id-length _);
@@ -88,7 +88,7 @@ module _ (p : Params) (from to : Track) (map image : List ℕ) (fits : Fits p im
         by (inr f) = inr (stays ∙ f)
 
     -- ---- and so one write more has reached B's stretch
-    pub copied-id : Copied p from to map image (u .stretch) (k * 2) → Copied p from to map image (unmoved-id .stretch) (suc (k * 2))
+    copied-id : Copied p from to map image (u .stretch) (k * 2) → Copied p from to map image (unmoved-id .stretch) (suc (k * 2))
     unfolding unmoved-id
     copied-id c = record {
       ids = λ j hj l. id j hj l (ℕ-discrete k j);
@@ -101,7 +101,7 @@ module _ (p : Params) (from to : Track) (map image : List ℕ) (fits : Fits p im
             ∙ id-same p (u .stretch) (u .long) k (newId p from to map k) h (id-length _) ∙ ap (newId p from to map) e
         id j hj l (no ne) = id-other p (u .stretch) (u .long) k (newId p from to map k) h (id-length _) j ne ∙ c .ids j hj (omega arith)
 
-    pub copied-body : Copied p from to map image (u .stretch) (k * 2 + 1)
+    copied-body : Copied p from to map image (u .stretch) (k * 2 + 1)
         → Copied p from to map image (unmoved-body (newBody p from map image k) (body-length k h) .stretch) (suc (k * 2 + 1))
     unfolding unmoved-body
     copied-body c = record {

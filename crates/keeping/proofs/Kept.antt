@@ -23,7 +23,7 @@ pub layout-maps : (n f : ℕ) → 0 < n → Mapped n (layoutOf n f)
 layout-maps n f h = record { long = layout-length n f h; below = layout-below n f h; has = layout-has n f h }
 
 module _ (p : Params) (from to : Track) (map image : List ℕ) (fits : Fits p image) (maps : Mapped (p .sectors) map) (may : Keepable p from to image) where
-  pub kept-left : Left p from to map image (kept p from to map image) (p .sectors)
+  kept-left : Left p from to map image (kept p from to map image) (p .sectors)
   unfolding kept
   kept-left = let e : p .sectors * 3 ≡ p .sectors * 2 + p .sectors = omega arith in rw e (left p from to map image fits maps may (p .sectors) (omega arith))
 

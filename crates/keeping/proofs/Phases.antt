@@ -39,7 +39,7 @@ module _ (p : Params) (from to : Track) (map image : List ℕ) (fits : Fits p im
       rw (r .1) (unmoved-body p from to map image fits maps may now u k h any (r .0 ∙ body-length p from to map image fits maps may k h))
 
   -- a write of B's is cut short
-  pub cut-copy : (after : List ℕ) (i : ℕ) → i < p .sectors * 2 → Cut p (writeOf p from to map image i) (afterWrites p from to map image i) after → Unmoved p from to map image after
+  cut-copy : (after : List ℕ) (i : ℕ) → i < p .sectors * 2 → Cut p (writeOf p from to map image i) (afterWrites p from to map image i) after → Unmoved p from to map image after
   cut-copy after i h (unbegun e) = rw e (copied p from to map image fits maps may i (omega arith) .0)
   cut-copy after i h (finished e) = rw (e ∙ sym (writes-more p from to map image i)) (copied p from to map image fits maps may (suc i) (omega arith) .0)
   cut-copy after i h (torn any tear l z) =
@@ -77,7 +77,7 @@ module _ (p : Params) (from to : Track) (map image : List ℕ) (fits : Fits p im
   slot-zero after h (inr e) = inr (1, omega arith, rw e (left p from to map image fits maps may 1 h))
 
   -- behind A's slot 0
-  pub cut-late : (after : List ℕ) (i : ℕ) → p .sectors * 2 < i → i < p .sectors * 3 → Cut p (writeOf p from to map image i) (afterWrites p from to map image i) after → LeftSome after
+  cut-late : (after : List ℕ) (i : ℕ) → p .sectors * 2 < i → i < p .sectors * 3 → Cut p (writeOf p from to map image i) (afterWrites p from to map image i) after → LeftSome after
   cut-late after i l h c =
       let j : ℕ = i - p .sectors * 2 in
       let e : i ≡ p .sectors * 2 + j = omega arith in

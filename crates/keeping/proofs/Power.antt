@@ -25,7 +25,7 @@ use Rattle.track.specs.declared.find.Sector.the-variants.{Slot}
 use Rattle.sectors.specs.Transfer.{found}
 use Rattle.sectors.proofs.Laws.{found-there}
 use Rattle.contents.specs.Content.{Bytes, contentAt, contentOf}
-use Rattle.contents.proofs.Laws.{content-fault, by-found, Free, pair-elsewhere, missing-bytes}
+use Rattle.contents.proofs.Laws.{content-fault, by-found, Free, pair-elsewhere, missing-bytes, content-at}
 use Rattle.keeping.specs.Keep.{kept, Mapped, Keepable}
 use Rattle.keeping.specs.Power.{Interrupted}
 use Rattle.keeping.proofs.Apart.{free-from, free-to}
@@ -34,11 +34,6 @@ use Rattle.keeping.proofs.After.{first-here, moved-from, moved-to, move
 use Rattle.keeping.proofs.Again.{unmoved-again}
 use Rattle.keeping.proofs.Outside.{same-track-in}
 use Rattle.keeping.proofs.Phases.{Phase, phase}
-
--- an address is a sector of its track
-content-at : (p : Params) (a : Lba) (image : List ℕ) → contentOf p a image ≡ contentAt p (trackOf p a) (sectorOf p a) image
-unfolding contentOf contentAt found
-content-at p a image = refl
 
 moved-flag : (p : Params) (t u : Track) (s : ℕ) → idFor p t (Moved u) s .flag ≡ 2
 unfolding idFor flagOf
@@ -85,7 +80,7 @@ module _ (p : Params) (from to : Track) (map image : List ℕ) (fits : Fits p im
           absurd (omega (arith, new, ap (λ (id : Id). id .flag) e, home-parts p from image (may .home) .2))
 
   -- ---- once it is another, A is moved to B: its sectors are read there
-  pub moved : (firstId p from after ≡ firstId p from image → ⊥) → (stateOf p from after ≡ Moved to) × (whereOf p from after ≡ On to)
+  moved : (firstId p from after ≡ firstId p from image → ⊥) → (stateOf p from after ≡ Moved to) × (whereOf p from after ≡ On to)
   moved ne = by at-cut
     where
       by : Phase p from to map image fits maps may after → (stateOf p from after ≡ Moved to) × (whereOf p from after ≡ On to)

@@ -14,7 +14,6 @@ use Rattle.geometry.specs.Params.{Within, addressCount, further}
 use Rattle.geometry.specs.Medium.{mediumOf}
 use Rattle.sectors.specs.Transfer.{Transfer, begun, reading, writing}
 use Rattle.model.specs.declared.block.Block.{Block}
-use Rattle.model.specs.declared.table.SectorCommand.the-variants.{Read}
 use Rattle.model.specs.declared.record.Drive.{Drive}
 use Rattle.model.specs.Block.{countOf}
 use Rattle.model.specs.Commands.{transferEnding, transferred, read as readOn, write as writeOn}

@@ -19,7 +19,6 @@ use Rattle.model.specs.Record.{blankDrive, driveAt, settingIn, Effect}
 use Rattle.model.specs.Engine.{Result, imageOf, obey, left, execute}
 use Rattle.model.proofs.engine.Assembled.{own-entry}
 use Rattle.model.proofs.records.Calls.{one-drive, its-answer, its-image}
-use Rattle.model.proofs.power.Passed.{leaves}
 
 module _ (c : Controller) (block given area : List ℕ) (images : List (List ℕ)) (whole : isWhole block ≡ true) (one : isCopy block ≡ false) where
   abbrev b : Block

@@ -12,8 +12,6 @@ use Rattle.geometry.specs.declared.config.Setting.the-variants.{Valid}
 use Rattle.geometry.specs.Params.{further}
 use Rattle.geometry.specs.Medium.{mediumOf}
 use Rattle.geometry.specs.Config.{labelHolds}
-use Rattle.keeping.proofs.Laws.{power, again}
-use Rattle.model.specs.declared.table.SectorCommand.the-variants.{Read}
 use Rattle.model.specs.declared.record.Drive.{Drive}
 use Rattle.model.specs.declared.record.Controller.{Controller}
 use Rattle.model.specs.declared.record.Answer.{Answer}

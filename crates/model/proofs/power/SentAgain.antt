@@ -19,7 +19,7 @@ use Rattle.model.specs.Block.{blockOf, alternateOf}
 use Rattle.model.specs.Checks.{judged, judge}
 use Rattle.model.specs.Commands.{assignTests, missingIn}
 use Rattle.model.specs.Record.{driveAt, goodAnswer}
-use Rattle.model.specs.Engine.{imageOf, viewOf, obey, left, execute, fresh, resetOf}
+use Rattle.model.specs.Engine.{imageOf, viewOf, obey, execute, fresh, resetOf}
 use Rattle.model.specs.Records.{isGood, Is}
 use Rattle.model.specs.Power.{Keeping, firstTrack, secondTrack, CutShort, leftImages, SentAgain}
 use Rattle.model.proofs.engine.Assignable.{assignable, first-low, assign-passes, kept-passes}

@@ -4,7 +4,7 @@ use mathlib.Core.Path.{subst, _∙_}
 use mathlib.Core.List.{List}
 use lib.ListN.{length}
 use Rattle.geometry.specs.declared.params.Params.{Params}
-use Rattle.keeping.proofs.Laws.{power, kept-late}
+use Rattle.keeping.proofs.Laws.{kept-late}
 use Rattle.model.specs.declared.record.Controller.{Controller}
 use Rattle.model.specs.Block.{blockOf}
 use Rattle.model.specs.Engine.{imageOf, execute}
