@@ -43,7 +43,7 @@ enum {
     LANTHEWG_OPCODE_READ = 0x08,
     LANTHEWG_OPCODE_WRITE = 0x0A,
     LANTHEWG_OPCODE_SEEK = 0x0B,
-    LANTHEWG_OPCODE_ASSIGN_ALTERNATE = 0x0E,
+    LANTHEWG_OPCODE_ASSIGN_ALTERNATE = 0x0E, /* hard disks only; formats both tracks unless LANTHEWG_CONTROL_KEEP is set, see below */
     LANTHEWG_OPCODE_WRITE_BUFFER = 0x0F,
     LANTHEWG_OPCODE_READ_BUFFER = 0x10, /* one buffer for all drives: what another drive's command left may be in it */
     LANTHEWG_OPCODE_INITIALIZE = 0x11,
@@ -64,7 +64,8 @@ enum {
  * - LANTHEWG_SENSE_PARTLY_FILLED has the error bit in the status, and lanthewg_is_good says no, though every byte of the source was
  *   written: the source did not fill the last sector, and zeros fill its rest. */
 
-/* Bits of the control byte, the last of a block. Its bit 7 may be set too and does nothing; every other one must be 0. */
+/* Bits of the control byte, the last of a block. Its bit 7 may be set too and does nothing; every other one must be 0,
+ * where the command looks at it (docs/REFERENCE.md). */
 enum {
     LANTHEWG_CONTROL_KEEP = 0x10,       /* Assign Alternate, see below */
     LANTHEWG_CONTROL_FROM_BUFFER = 0x20 /* Format Drive, Format Track, Assign Alternate: the fill is the buffer's front, which another
@@ -76,13 +77,14 @@ enum {
  *
  * - What B held is lost, with keep and without: B must be a spare track.
  * - Every sector of A must be found. Else the command fails, with the code of the first that is not and the block's address, and
- *   nothing is changed. So a track that was flagged as bad cannot be kept. That the data are what was saved is not asked.
+ *   nothing on the disk is changed. So a track that was flagged as bad cannot be kept. That the data are what was saved is not asked.
  * - Not with LANTHEWG_CONTROL_FROM_BUFFER: together they are LANTHEWG_SENSE_NOT_VALID.
- * - The power may go at any time, and every address outside B still reads as before, if what was changed reaches the medium in this
- *   order: B's track; the ID of A's slot 0; the rest of A. That is the firmware's part, and not the order of other assignments:
- *   docs/FIRMWARE.md.
- * - After a power failure and a Reset send it again, with the same three bytes. LANTHEWG_SENSE_PAIRED with the block's address then
- *   says that A is moved already. */
+ * - The power may go at any time, and after a Reset every address outside B still reads as before, if what was changed reaches the
+ *   medium in this order, an ID as a whole: B's track; the ID of A's slot 0; the rest of A. That is the firmware's part, and not the
+ *   order of other assignments; where blocks can tear there is another list: docs/FIRMWARE.md.
+ * - After a power failure and a Reset send the same block again, with keep, and the same three bytes. LANTHEWG_SENSE_PAIRED with the
+ *   block's address then says that A is moved already.
+ * - A track is moved once: if B begins to fail, read A's sectors while they are found. */
 
 /* The numbers of a refusal, in which status, message and counts are 0 and nothing is changed. */
 enum {

@@ -1,9 +1,10 @@
 /* What docs/FIRMWARE.md says of a flush that the power ends. A flush brings an image over in steps, each from the last block to the
- * first; here every block of every step is one to stop at. After the restart no address reads as what another one held, the drive's
- * parameters are the former ones, the new ones or none, and the command can be given again, which leaves what it would have left. An
- * assignment with keep promises more: every address outside its alternate reads as before the command. Two media are tried: one whose
- * blocks come over whole or not at all, and one where of the block under way each byte is either old or new. With them, what happens
- * where the page is not followed. No theorem is about a flush; crates/model/specs/Power.antt is about the writes of a keep. */
+ * first, those of a keep in either order; here every block of every step is one to stop at. After the restart no address reads as what
+ * another one held, the drive's parameters are the former ones, the new ones or none, and the command can be given again, which leaves
+ * what it would have left. An assignment with keep promises something else: every address outside its alternate reads as before the
+ * command. Two media are tried: one whose blocks come over whole or not at all, and one where of the block under way each byte is
+ * either old or new. With them, what happens where the page is not followed. No theorem is about a flush; crates/model/specs/Power.antt
+ * is about the writes of a keep. */
 #include "lanthewg.h"
 
 #include <stdio.h>

@@ -1,5 +1,5 @@
--- Request E7: track A, `from`, is moved to track B, `to`, with its contents, by single writes in a fixed order. A map lists the sector in
--- each slot.
+-- Request E7: track A, `from`, is moved to track B, `to`, with its contents, by single writes in a fixed order. A map here is a layout, the
+-- sector in each slot, and no patient's map.
 use Prim.Native.Nat.{ℕ, zero, suc, _+_, _-_, _*_, _/_, _%_, _<_}
 use mathlib.Core.Path.{_≡_}
 use mathlib.Core.Logic.{_⊎_}
@@ -33,6 +33,7 @@ firstMissing p t image (suc m) s =
     let code = codeOf (contentAt p t s image) in
     pick (eqb code 0) (firstMissing p t image m (suc s)) code
 
+-- Of all n sectors of track t.
 unfoldable pub keepCode : Params → Track → (image : List ℕ) → ℕ
 keepCode p t image = firstMissing p t image (p .sectors) 0
 
@@ -60,14 +61,14 @@ copyBody to map sectors k = Body to k (sectors (getD map k 0))
 abbrev pub leaveId : Params → (from to : Track) → (map : List ℕ) → (k : ℕ) → Write
 leaveId p from to map k = Id from k (idBytes (idFor p from (Moved to) (getD map k 0)))
 
--- Write i of 3n: first all B's slots, each its ID and then its data; then A's slot 0 ID alone; then A's other IDs.
+-- Write i of 3n, counted from 0: first all B's slots, each its ID and then its data; then A's slot 0 ID alone; then A's other IDs.
 unfoldable pub writeWith : Params → (from to : Track) → (map : List ℕ) → (sectors : ℕ → List ℕ) → (i : ℕ) → Write
 writeWith p from to map sectors i =
     pick (ltb i (p .sectors * 2))
     (pick (eqb (i % 2) 0) (copyId p from to map (i / 2)) (copyBody to map sectors (i / 2)))
     (leaveId p from to map (i - p .sectors * 2))
 
--- ---- The move of what is in an image: as it is before the first write
+-- ---- The move of what an image holds before the first write
 abbrev pub sectorsOf : Params → Track → (image : List ℕ) → (s : ℕ) → List ℕ
 sectorsOf p t image s = readBytes (contentAt p t s image)
 
@@ -84,7 +85,8 @@ unfoldable pub kept : Params → (from to : Track) → (map image : List ℕ) �
 kept p from to map image = afterWrites p from to map image (p .sectors * 3)
 
 -- ---- What code and theorems go by
--- A is sound with every sector found; B is another track, neither bad nor moved nor taken by another than A.
+-- A is sound with every sector found; B is another track, neither bad nor moved nor taken by another than A
+-- (one that was never formatted counts as sound).
 pub record Keepable (p : Params) (from to : Track) (image : List ℕ) : Type 0 where
   pub from-in : from .0 < trackCount p
   pub to-in : to .0 < trackCount p
@@ -99,7 +101,7 @@ pub record Mapped (n : ℕ) (map : List ℕ) : Type 0 where
   pub below : (k : ℕ) → k < n → getD map k 0 < n
   pub has : (s : ℕ) → s < n → (k : ℕ) × (k < n) × (getD map k 0 ≡ s)
 
--- The slot of each of n sectors is noted.
+-- The slot of each of n sectors is noted, in a list of 32, the most sectors that a track has.
 pub record Noting (n : ℕ) (slots : List ℕ) : Type 0 where
   pub long : length slots ≡ 32
   pub below : (s : ℕ) → s < n → getD slots s 0 < n

@@ -28,7 +28,7 @@ pub data Cut (p : Params) (w : Write) (before after : List ℕ) : Type 0 where
   finished : after ≡ made p w before → Cut p w before after
   torn : (any : List ℕ) → mayTear w ≡ true → length any ≡ length (bytesOf w) → after ≡ made p (withBytes any w) before → Cut p w before after
 
--- Finished writes stand, later ones did not begin: i writes are made, and write i, of 3n, is cut short.
+-- Finished writes stand, later ones did not begin: the first i writes are made, and the next, write i of 3n, is cut short.
 pub record Interrupted (p : Params) (from to : Track) (map image after : List ℕ) : Type 0 where
   pub i : ℕ
   pub within : i < p .sectors * 3

@@ -19,6 +19,7 @@ use Rattle.track.specs.declared.find.Sector.the-variants.{Slot}
 use Rattle.track.specs.Image.{firstId}
 use Rattle.sectors.specs.Transfer.{found}
 use Rattle.contents.specs.Content.{contentOf}
+use Rattle.keeping.specs.Keep.{kept}
 use Rattle.keeping.specs.Power.{Interrupted}
 use Rattle.model.specs.declared.table.Command.the-variants.{OnDisk}
 use Rattle.model.specs.declared.table.DiskCommand.the-variants.{TrackWork, SectorWork}
@@ -57,11 +58,13 @@ leftImages d images cut = set images d cut
 abbrev pub restarted : (images : List (List ℕ)) → Controller
 restarted images = resetOf images .controller
 
--- What the command leaves where power does not fail is the last of these.
+-- Where power does not fail the command leaves the image after all these writes, the last that a cut can leave.
 unfoldable pub RunsToTheEnd : Type 0
 RunsToTheEnd =
     (c : Controller) (block given area : List ℕ) (images : List (List ℕ)) (d : ℕ) (p : Params) → Keeping c block given area images d p
-    → CutShort p block given (imageOf d images) (imageOf d (execute c block given area images .images))
+    → let left = imageOf d (execute c block given area images .images) in
+    (left ≡ kept p (firstTrack p block) (secondTrack p given) (layoutOf (p .sectors) (blockOf block .extra)) (imageOf d images))
+    × CutShort p block given (imageOf d images) left
 
 -- From every fresh start, on any images, the label holds the parameters in force wherever the command runs.
 unfoldable pub FromFresh : Type 0
@@ -71,7 +74,7 @@ FromFresh =
     Is (OnDisk (TrackWork AssignAlternate)) d block (execute (s .controller) block given area (s .images) .outcome .answer) → keeps (blockOf block) ≡ true
     → (p : Params) × Keeping (s .controller) block given area (s .images) d p
 
--- ---- A Read of drive d, of sectors outside track B. How far it goes on the drive is not asked.
+-- ---- A Read of drive d, of sectors outside track B. It may run past the end of the drive (21h); its other fields are not asked.
 pub record ReadOutside (block : List ℕ) (d : ℕ) (p : Params) (B : Track) : Type 0 where
   pub six : length block ≡ 6
   pub command : rowFor (blockOf block .opcode) .command ≡ OnDisk (SectorWork Read)
@@ -79,7 +82,8 @@ pub record ReadOutside (block : List ℕ) (d : ℕ) (p : Params) (B : Track) : T
   pub outside : (i : ℕ) → i < countOf (blockOf block) → trackOf p (further (blockOf block .address) i) .0 ≡ B .0 → ⊥
 
 -- ---- The theorem. The same parameters are in force again; and such a Read answers as it would have before the command: number, status,
--- message, counts and the whole data area, and, unless it is refused, which leaves the sense, the sense after it.
+-- message, counts and the whole data area; and the same sense after it, but where the Read is refused, since a refusal leaves the sense
+-- as it was.
 unfoldable pub ReadsAsBefore : Type 0
 ReadsAsBefore =
     (c : Controller) (block given area : List ℕ) (images : List (List ℕ)) (d : ℕ) (p : Params) → Keeping c block given area images d p
@@ -94,7 +98,7 @@ ReadsAsBefore =
     × (after .area ≡ before .area)
     × (before .outcome .answer .number ≡ 0 → driveAt (after .outcome .controller) d .sense ≡ driveAt (before .outcome .controller) d .sense))
 
--- ---- Beyond the request
+-- ---- How the console goes on: the request's 'can be sent again', and more
 -- As long as A's slot 0 is as it was, the command can be sent again, as often as power fails: it would end well, on the same parameters
 -- held by the label, with the same answer, and it leaves the very image that it would have left uncut.
 unfoldable pub SentAgain : Type 0

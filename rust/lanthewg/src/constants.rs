@@ -14,6 +14,7 @@ pub const OPCODE_FORMAT_BAD_TRACK: u8 = 0x07;
 pub const OPCODE_READ: u8 = 0x08;
 pub const OPCODE_WRITE: u8 = 0x0A;
 pub const OPCODE_SEEK: u8 = 0x0B;
+/// Hard disks only. **Formats both tracks, and what they held is lost, unless [`CONTROL_KEEP`] is set.**
 pub const OPCODE_ASSIGN_ALTERNATE: u8 = 0x0E;
 pub const OPCODE_WRITE_BUFFER: u8 = 0x0F;
 /// There is one buffer for all drives: what another drive's command left may be in it, until a Reset
@@ -66,21 +67,23 @@ pub const OPCODE_INITIALIZE: u8 = 0x11;
 pub const OPCODE_COPY: u8 = 0x20;
 
 // Bits of the control byte, the last of a block. Its bit 7 may be set too and does nothing; every
-// other one must be 0.
+// other one must be 0, where the command looks at it (docs/REFERENCE.md).
 /// Of Assign Alternate, which moves track A, the block's, to track B, that of the three bytes given.
 /// **Without this bit both are formatted: A's maps are lost.** With it A's sectors are copied to B, and
 /// A's addresses read as before.
 ///
 /// - What B held is lost, with keep and without: B must be a spare track.
 /// - Every sector of A must be found. Else the command fails, with the code of the first that is not
-///   and the block's address, and nothing is changed. So a track that was flagged as bad cannot be
-///   kept. That the data are what was saved is not asked.
+///   and the block's address, and nothing on the disk is changed. So a track that was flagged as bad
+///   cannot be kept. That the data are what was saved is not asked.
 /// - Not with [`CONTROL_FROM_BUFFER`]: together they are [`SENSE_NOT_VALID`].
-/// - The power may go at any time, and every address outside B still reads as before, if what was
-///   changed reaches the medium in this order: B's track; the ID of A's slot 0; the rest of A. That is
-///   the firmware's part, and not the order of other assignments: `docs/FIRMWARE.md`.
-/// - After a power failure and a Reset send it again, with the same three bytes. [`SENSE_PAIRED`] with
-///   the block's address then says that A is moved already.
+/// - The power may go at any time, and after a Reset every address outside B still reads as before, if
+///   what was changed reaches the medium in this order, an ID as a whole: B's track; the ID of A's slot
+///   0; the rest of A. That is the firmware's part, and not the order of other assignments; where blocks
+///   can tear there is another list: `docs/FIRMWARE.md`.
+/// - After a power failure and a Reset send the same block again, with keep, and the same three bytes.
+///   [`SENSE_PAIRED`] with the block's address then says that A is moved already.
+/// - A track is moved once: if B begins to fail, read A's sectors while they are found.
 ///
 /// ```
 /// use lanthewg::*;

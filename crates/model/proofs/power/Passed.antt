@@ -1,4 +1,4 @@
--- What it says of an Assign Alternate with keep that it ends well: its checks have passed, and A can be moved to B with its contents.
+-- What follows where an Assign Alternate with keep ends well: its checks have passed, and A can be moved to B with its contents.
 use Prim.Native.Nat.{ℕ}
 use mathlib.Core.Path.{_≡_, refl, sym, _∙_}
 use mathlib.Core.Bool.{true, false, true≢false}
