@@ -133,20 +133,13 @@ static void controls(void) {
     control = 0;
 }
 
-/* A keep of track 1 to track 2 where something is wrong with track 1: the code of finding, with the block's address, and nothing is
- * changed. Then track 2 as an assignment that the power ended leaves it, taken by track 1: free for that track, with keep and without,
- * and for nothing else. */
-static void keeps(void) {
+/* A keep of track 1 to track 2 where something is wrong with track 1: the code of finding, with the block's address, and nothing on the
+ * disk is changed; without keep it is not asked for. */
+static void not_kept(const uint8_t *formatted, uint8_t *track_1) {
     static const struct { uint8_t code; int slot, byte; uint8_t value; } spoilt[] = {
         {LANTHEWG_SENSE_NO_ID, 0, MARK, 0}, {LANTHEWG_SENSE_OTHER_TRACK, 0, CYLINDER, 2}, {LANTHEWG_SENSE_UNKNOWN_FLAG, 0, FLAG, 4},
         {LANTHEWG_SENSE_BAD_TRACK, 0, FLAG, 1}, {LANTHEWG_SENSE_NO_SECTOR, 31, SECTOR, 5}, {LANTHEWG_SENSE_NO_SECTOR, 5, MARK, 0}};
-    static uint8_t formatted[LENGTH], was[LENGTH];
-    uint8_t *track_1 = disk + LANTHEWG_LABEL_SIZE + SECTORS * SLOT, *track_2 = track_1 + SECTORS * SLOT;
-    good(LANTHEWG_OPCODE_FORMAT_DRIVE, 0, 1);
-    memset(given, 0x77, SLOT);
-    good(LANTHEWG_OPCODE_WRITE, 33, 1);
-    memcpy(given, "\0\0\100", LANTHEWG_ALTERNATE_SIZE);
-    memcpy(formatted, disk, sizeof disk);
+    static uint8_t was[LENGTH];
     for (size_t i = 0; i < sizeof spoilt / sizeof *spoilt; i++) {
         track_1[spoilt[i].slot * SLOT + spoilt[i].byte] = spoilt[i].value;
         memcpy(was, disk, sizeof disk);
@@ -157,6 +150,11 @@ static void keeps(void) {
         good(LANTHEWG_OPCODE_ASSIGN_ALTERNATE, 40, 1);
         memcpy(disk, formatted, sizeof disk);
     }
+}
+
+/* Track 2 as an assignment that the power ended leaves it, taken by track 1: free for that track, with keep and without, and for nothing
+ * else. */
+static void left_taken(const uint8_t *formatted, uint8_t *track_2) {
     for (uint8_t bits = 0; bits <= LANTHEWG_CONTROL_KEEP; bits += LANTHEWG_CONTROL_KEEP) {
         track_2[FLAG] = 3;
         track_2[PARTNER] = 1;
@@ -176,6 +174,19 @@ static void keeps(void) {
         expect(area[0] == (bits ? 0x77 : 0x6C), "an assignment to a track that was left taken", bits);
         memcpy(disk, formatted, sizeof disk);
     }
+}
+
+/* Both, on a disk with a sector of 77h on track 1. */
+static void keeps(void) {
+    static uint8_t formatted[LENGTH];
+    uint8_t *track_1 = disk + LANTHEWG_LABEL_SIZE + SECTORS * SLOT;
+    good(LANTHEWG_OPCODE_FORMAT_DRIVE, 0, 1);
+    memset(given, 0x77, SLOT);
+    good(LANTHEWG_OPCODE_WRITE, 33, 1);
+    memcpy(given, "\0\0\100", LANTHEWG_ALTERNATE_SIZE);
+    memcpy(formatted, disk, sizeof disk);
+    not_kept(formatted, track_1);
+    left_taken(formatted, track_1 + SECTORS * SLOT);
 }
 
 /* A byte of an ID of the disk is damaged, which a Read of an address then meets; then it is put back. */

@@ -377,7 +377,16 @@ static void otherwise(const test *format, const test *exchanged, const test *pai
     expect(stuck > 0, behind, "the track before its alternate: nothing went wrong");
 }
 
-/* The same of a keep. */
+/* A keep, the alternate as it is to be, then these bytes of the track's slot 0, which tear. */
+static void torn_slot_0(const test *t, int from, int end) {
+    begin(t);
+    take_track(t->is, t->alternate);
+    bring(t, LONGEST, FROM_END, false);
+    take(from, end);
+    bring(t, BLOCK, FROM_END, true);
+}
+
+/* Not as the page has a keep. */
 static void otherwise_kept(const test *t) {
     int alternate = front(t->is, t->alternate), middle = alternate + track(t->is) / 2, id = front(t->is, t->track);
     begin(t);
@@ -404,17 +413,9 @@ static void otherwise_kept(const test *t) {
     take_track(t->is, t->alternate);
     bring(t, BLOCK, FROM_END, true);
     expect(t->flag == TAKEN || stuck > 0, t, "the alternate torn and in one step: nothing went wrong");
-    begin(t);
-    take_track(t->is, t->alternate);
-    bring(t, LONGEST, FROM_END, false);
-    take(id, id + ID);
-    bring(t, BLOCK, FROM_END, true);
+    torn_slot_0(t, id, id + ID);
     expect(others > 0, t, "the track's slot 0 torn and in one step: nothing went wrong");
-    begin(t);
-    take_track(t->is, t->alternate);
-    bring(t, LONGEST, FROM_END, false);
-    take(id + SECTOR, id + FLAG);
-    bring(t, BLOCK, FROM_END, true);
+    torn_slot_0(t, id + SECTOR, id + FLAG);
     expect(strays > 0, t, "the sector of the track's slot 0 before its flag: nothing went wrong");
 }
 

@@ -16,7 +16,7 @@ use Rattle.track.specs.Id.{idFor}
 use Rattle.track.specs.Image.{Fits, withTrack}
 use Rattle.track.proofs.Laws.{id-length, track-room}
 use Rattle.contents.specs.Content.{readBytes}
-use Rattle.keeping.specs.Keep.{made, copyId, copyBody, sectorsOf, leaveId, afterWrites, kept, slotStart, Mapped, Keepable}
+use Rattle.keeping.specs.Keep.{afterWrite, copyId, copyBody, sectorsOf, leaveId, afterWrites, kept, slotStart, Mapped, Keepable}
 use Rattle.keeping.proofs.Order.{writes-none, leave-more, copy-more}
 use Rattle.keeping.proofs.Copying.{newId, newBody, body-length, Unmoved}
 use Rattle.keeping.proofs.Before.{unmoved-fits, unmoved-reads, unmoved-keepable}
@@ -30,8 +30,8 @@ module _ (p : Params) (from to : Track) (map image : List ℕ) (fits : Fits p im
   slot-long k h = length-append (newId p from to map k) (newBody p from map image k) ∙ omega (arith, id-length (idFor p to (Taken from) (getD map k 0)), body-length p from to map image fits maps may k h)
 
   slot-step : (k : ℕ) (done : List ℕ) → k < p .sectors → length done ≡ k * slotSize p
-      → made p (copyBody to map (sectorsOf p from image) k) (made p (copyId p from to map k) (splice (trackStart p to) done image)) ≡ splice (trackStart p to) (done ++ newSlot p from to map image k) image
-  unfolding made
+      → afterWrite p (copyBody to map (sectorsOf p from image) k) (afterWrite p (copyId p from to map k) (splice (trackStart p to) done image)) ≡ splice (trackStart p to) (done ++ newSlot p from to map image k) image
+  unfolding afterWrite
   slot-step k done h l =
       let start : ℕ = trackStart p to in
       let id : List ℕ = newId p from to map k in
@@ -48,7 +48,7 @@ module _ (p : Params) (from to : Track) (map image : List ℕ) (fits : Fits p im
   slots-written zero h = writes-none p from to map image ∙ sym (splice-empty (trackStart p to) image)
   slots-written (suc k) h =
       copy-more p from to map image k (omega arith)
-      ∙ ap (λ (x : List ℕ). made p (copyBody to map (sectorsOf p from image) k) (made p (copyId p from to map k) x)) (slots-written k (omega arith))
+      ∙ ap (λ (x : List ℕ). afterWrite p (copyBody to map (sectorsOf p from image) k) (afterWrite p (copyId p from to map k) x)) (slots-written k (omega arith))
       ∙ slot-step k (rows (newSlot p from to map image) k) (omega arith) (length-rows (newSlot p from to map image) (slotSize p) k (λ i l. slot-long i (omega arith)))
 
   whole-written : afterWrites p from to map image (p .sectors * 2) ≡ withTrack p to (rows (newSlot p from to map image) (p .sectors)) image
@@ -79,7 +79,7 @@ module _ (p : Params) (from to : Track) (map image now : List ℕ) (fits : Fits 
       ∙ ap (λ (bytes : List ℕ). withTrack p to bytes now) same-slots ∙ written-over _ (whole-long p from to next image fits maps may)
       ∙ sym (whole-written p from to next image fits maps may))
   same-writes (suc j) h =
-      leave-more p from to next now j (omega arith) ∙ ap (made p (leaveId p from to next j)) (same-writes j (omega arith)) ∙ sym (leave-more p from to next image j (omega arith))
+      leave-more p from to next now j (omega arith) ∙ ap (afterWrite p (leaveId p from to next j)) (same-writes j (omega arith)) ∙ sym (leave-more p from to next image j (omega arith))
 
   pub unmoved-again : kept p from to next now ≡ kept p from to next image
   unfolding kept

@@ -14,8 +14,8 @@ use Rattle.track.specs.Id.{idBytes, idFor}
 use Rattle.track.specs.Image.{Fits, trackBytes, withTrack, slotId, slotData, withData}
 use Rattle.track.proofs.Laws.{id-length, track-back, length-track, length-with-data, data-same, data-other, id-kept}
 use Rattle.contents.specs.Content.{contentAt, readBytes}
-use Rattle.keeping.specs.Keep.{Body, made, copyId, copyBody, sectorsOf, writeOf, afterWrites, Mapped, Keepable}
-use Rattle.keeping.proofs.Writes.{withId, length-with-id, id-same, id-other, data-kept, made-id, made-body}
+use Rattle.keeping.specs.Keep.{Body, afterWrite, copyId, copyBody, sectorsOf, writeOf, afterWrites, Mapped, Keepable}
+use Rattle.keeping.proofs.Writes.{withId, length-with-id, id-same, id-other, data-kept, id-in-track, body-in-track}
 use Rattle.keeping.proofs.Reading.{content-length}
 use Rattle.keeping.proofs.Order.{halves, write-id, write-body}
 
@@ -54,11 +54,11 @@ module _ (p : Params) (from to : Track) (map image : List ℕ) (fits : Fits p im
 
   module _ (now : List ℕ) (u : Unmoved p from to map image now) (k : ℕ) (h : k < p .sectors) where
     -- B's slot k gets its ID
-    unmoved-id : Unmoved p from to map image (made p (copyId p from to map k) now)
+    unmoved-id : Unmoved p from to map image (afterWrite p (copyId p from to map k) now)
     unmoved-id = record {
       stretch = withId p k (newId p from to map k) (u .stretch);
       long = length-with-id p (u .stretch) (u .long) k (newId p from to map k) h (id-length _);
-      is = ap (made p (copyId p from to map k)) (u .is) ∙ made-id p to k (newId p from to map k) (u .stretch) image (fits .long) (may .to-in) h (u .long) (id-length _);
+      is = ap (afterWrite p (copyId p from to map k)) (u .is) ∙ id-in-track p to k (newId p from to map k) (u .stretch) image (fits .long) (may .to-in) h (u .long) (id-length _);
       first = by (ℕ-discrete k 0) (u .first);
     }
       where
@@ -71,11 +71,11 @@ module _ (p : Params) (from to : Track) (map image : List ℕ) (fits : Fits p im
         by (no ne) (inr f) = inr (id-other p (u .stretch) (u .long) k (newId p from to map k) h (id-length _) 0 ne ∙ f)
 
     -- B's slot k gets data, whatever they are
-    pub unmoved-body : (any : List ℕ) → length any ≡ p .size → Unmoved p from to map image (made p (Body to k any) now)
+    pub unmoved-body : (any : List ℕ) → length any ≡ p .size → Unmoved p from to map image (afterWrite p (Body to k any) now)
     unmoved-body any e = record {
       stretch = withData p k any (u .stretch);
       long = length-with-data p (u .stretch) (u .long) k any h e;
-      is = ap (made p (Body to k any)) (u .is) ∙ made-body p to k any (u .stretch) image (fits .long) (may .to-in) h (u .long) e;
+      is = ap (afterWrite p (Body to k any)) (u .is) ∙ body-in-track p to k any (u .stretch) image (fits .long) (may .to-in) h (u .long) e;
       first = by (u .first);
     }
       where
@@ -119,7 +119,7 @@ module _ (p : Params) (from to : Track) (map image : List ℕ) (fits : Fits p im
   abbrev pub CopiedAt : (now : List ℕ) → (i : ℕ) → Type 0
   CopiedAt now i = (u : Unmoved p from to map image now) × Copied p from to map image (u .stretch) i
 
-  next : (now : List ℕ) (i k : ℕ) → k < p .sectors → (i ≡ k * 2) ⊎ (i ≡ k * 2 + 1) → CopiedAt now i → CopiedAt (made p (writeOf p from to map image i) now) (suc i)
+  next : (now : List ℕ) (i k : ℕ) → k < p .sectors → (i ≡ k * 2) ⊎ (i ≡ k * 2 + 1) → CopiedAt now i → CopiedAt (afterWrite p (writeOf p from to map image i) now) (suc i)
   next now i k h (inl e) c =
       let w : writeOf p from to map image i ≡ copyId p from to map k = ap (writeOf p from to map image) e ∙ write-id p from to map image k h in
       rw (w, e) (unmoved-id now (c .0) k h, copied-id now (c .0) k h (rw e at (c .1)))

@@ -18,8 +18,8 @@ use Rattle.track.specs.Find.{takenBy, whereBy, whereOf, holds, slotUsed, sector
 use Rattle.track.specs.Pair.{stateBy, stateOf}
 use Rattle.sectors.specs.Transfer.{found}
 use Rattle.contents.specs.Content.{Content, Bytes, Missing, readBytes, contentIn, contentAt, contentOf}
-use Rattle.keeping.specs.Power.{bytesOf, withBytes, mayTear, torn, finished, Interrupted}
-use Rattle.keeping.specs.Keep.{Id, Body, codeOf, firstMissing, keepCode, made, writeWith, writeOf, afterWrites, kept}
+use Rattle.keeping.specs.Power.{newBytes, withBytes, mayTear, torn, finished, Interrupted}
+use Rattle.keeping.specs.Keep.{Id, Body, codeOf, firstMissing, keepCode, afterWrite, writeWith, writeOf, afterWrites, kept}
 
 p : Params
 p = record { cylinders = 1; heads = 3; sectors = 3; size = 2 }
@@ -62,7 +62,7 @@ steps : map after (0 ∷ 1 ∷ 2 ∷ 3 ∷ 4 ∷ 5 ∷ 6 ∷ 7 ∷ 8 ∷ 9 ∷ [
     ∷ image (ofA 0 2 2 11 12) (ofA 2 2 2 21 22) (ofA 0 0 0 31 32) (ofB 0 3 1 31 32) (ofB 2 3 1 21 22) (ofB 1 3 1 11 12)
     ∷ image (ofA 0 2 2 11 12) (ofA 2 2 2 21 22) (ofA 1 2 2 31 32) (ofB 0 3 1 31 32) (ofB 2 3 1 21 22) (ofB 1 3 1 11 12)
     ∷ []
-unfolding p slot ofA ofB image old after layoutOf laid place layAt emptyFrom afterWrites made writeOf writeWith pick splice part contentAt contentIn readBytes sectorFound sectorFrom sectorIn whereOf
+unfolding p slot ofA ofB image old after layoutOf laid place layAt emptyFrom afterWrites afterWrite writeOf writeWith pick splice part contentAt contentIn readBytes sectorFound sectorFrom sectorIn whereOf
     whereBy firstId slotId slotData trackBytes idIn ownId takenBy slotUsed firstBelow firstFrom holds idBytes idFor flagOf partnerOf
 steps = refl
 
@@ -76,25 +76,25 @@ as-before = Bytes (1 ∷ 2 ∷ []) ∷ Missing 0x14 ∷ Bytes (5 ∷ 6 ∷ []) �
 -- after each step, which is an ID old or new as a whole; and with each of the three data writes torn
 all-read :
     (map (λ (i : ℕ). reads (after i)) (0 ∷ 1 ∷ 2 ∷ 3 ∷ 4 ∷ 5 ∷ 6 ∷ 7 ∷ 8 ∷ 9 ∷ []) ≡ replicate 10 as-before)
-    × (map reads (made p (Body (track 2) 0 (98 ∷ 99 ∷ [])) (after 1) ∷ made p (Body (track 2) 1 (21 ∷ 99 ∷ [])) (after 3) ∷ made p (Body (track 2) 2 (0 ∷ 0 ∷ [])) (after 5) ∷ [])
+    × (map reads (afterWrite p (Body (track 2) 0 (98 ∷ 99 ∷ [])) (after 1) ∷ afterWrite p (Body (track 2) 1 (21 ∷ 99 ∷ [])) (after 3) ∷ afterWrite p (Body (track 2) 2 (0 ∷ 0 ∷ [])) (after 5) ∷ [])
     ≡ replicate 3 as-before)
-unfolding reads as-before contentOf found p slot ofA ofB image old after layoutOf laid place layAt emptyFrom afterWrites made writeOf writeWith pick splice part contentAt contentIn readBytes sectorFound sectorFrom sectorIn whereOf
+unfolding reads as-before contentOf found p slot ofA ofB image old after layoutOf laid place layAt emptyFrom afterWrites afterWrite writeOf writeWith pick splice part contentAt contentIn readBytes sectorFound sectorFrom sectorIn whereOf
     whereBy firstId slotId slotData trackBytes idIn ownId takenBy slotUsed firstBelow firstFrom holds idBytes idFor flagOf partnerOf
 all-read = (refl, refl)
 
 -- ---- sent again: track 2 is taken by track 1, which has all its sectors, and the move ends as if it had not been cut
 half : List ℕ
-half = made p (Body (track 2) 1 (98 ∷ 99 ∷ [])) (after 3)
+half = afterWrite p (Body (track 2) 1 (98 ∷ 99 ∷ [])) (after 3)
 
 sent-again : (stateOf p (track 1) half ≡ Sound) × (stateOf p (track 2) half ≡ Taken (track 1)) × (keepCode p (track 1) half ≡ 0)
     × (kept p (track 1) (track 2) (layoutOf 3 2) half ≡ after 9)
-unfolding half kept keepCode firstMissing codeOf stateOf stateBy p slot ofA ofB image old after layoutOf laid place layAt emptyFrom afterWrites made writeOf writeWith pick splice part contentAt contentIn readBytes sectorFound sectorFrom sectorIn whereOf
+unfolding half kept keepCode firstMissing codeOf stateOf stateBy p slot ofA ofB image old after layoutOf laid place layAt emptyFrom afterWrites afterWrite writeOf writeWith pick splice part contentAt contentIn readBytes sectorFound sectorFrom sectorIn whereOf
     whereBy firstId slotId slotData trackBytes idIn ownId takenBy slotUsed firstBelow firstFrom holds idBytes idFor flagOf partnerOf
 sent-again = (refl, refl, refl, refl)
 
 -- it is what power can leave, at write 3; and so is the end, at the last write
 half-cut : Interrupted p (track 1) (track 2) (layoutOf 3 2) old half
-unfolding half bytesOf withBytes mayTear p slot ofA ofB image old after layoutOf laid place layAt emptyFrom afterWrites made writeOf writeWith pick splice part contentAt contentIn readBytes sectorFound sectorFrom sectorIn whereOf
+unfolding half newBytes withBytes mayTear p slot ofA ofB image old after layoutOf laid place layAt emptyFrom afterWrites afterWrite writeOf writeWith pick splice part contentAt contentIn readBytes sectorFound sectorFrom sectorIn whereOf
     whereBy firstId slotId slotData trackBytes idIn ownId takenBy slotUsed firstBelow firstFrom holds idBytes idFor flagOf partnerOf
 half-cut = record { i = 3; within = omega arith; cut = torn (98 ∷ 99 ∷ []) refl refl refl }
 
@@ -104,21 +104,21 @@ whole-cut = record { i = 8; within = omega arith; cut = finished refl }
 
 -- once slot 0 of track 1 is written it is moved; track 0 is refused for its sector 1
 settled : (map (λ (i : ℕ). stateOf p (track 1) (after i)) (6 ∷ 7 ∷ []) ≡ Sound ∷ Moved (track 2) ∷ []) × (keepCode p (track 0) old ≡ 0x14)
-unfolding keepCode firstMissing codeOf stateOf stateBy p slot ofA ofB image old after layoutOf laid place layAt emptyFrom afterWrites made writeOf writeWith pick splice part contentAt contentIn readBytes sectorFound sectorFrom sectorIn whereOf
+unfolding keepCode firstMissing codeOf stateOf stateBy p slot ofA ofB image old after layoutOf laid place layAt emptyFrom afterWrites afterWrite writeOf writeWith pick splice part contentAt contentIn readBytes sectorFound sectorFrom sectorIn whereOf
     whereBy firstId slotId slotData trackBytes idIn ownId takenBy slotUsed firstBelow firstFrom holds idBytes idFor flagOf partnerOf
 settled = (refl, refl)
 
 -- ---- why the order is what it is: the same writes in another order lose sectors of track 1
 lost :
     -- its slot 0 before track 2 has all data: sector 1 is another's
-    (reads (made p (writeOf p (track 1) (track 2) (layoutOf 3 2) old 6) (after 5))
+    (reads (afterWrite p (writeOf p (track 1) (track 2) (layoutOf 3 2) old 6) (after 5))
     ≡ Bytes (1 ∷ 2 ∷ []) ∷ Missing 0x14 ∷ Bytes (5 ∷ 6 ∷ []) ∷ Bytes (31 ∷ 32 ∷ []) ∷ Bytes (9 ∷ 9 ∷ []) ∷ Bytes (21 ∷ 22 ∷ []) ∷ [])
     -- its slot 2 before its slot 0: sector 0 is gone
-    × (reads (made p (writeOf p (track 1) (track 2) (layoutOf 3 2) old 8) (after 6))
+    × (reads (afterWrite p (writeOf p (track 1) (track 2) (layoutOf 3 2) old 8) (after 6))
     ≡ Bytes (1 ∷ 2 ∷ []) ∷ Missing 0x14 ∷ Bytes (5 ∷ 6 ∷ []) ∷ Missing 0x14 ∷ Bytes (11 ∷ 12 ∷ []) ∷ Bytes (21 ∷ 22 ∷ []) ∷ [])
     -- its slot 0 torn before the partner, were it not old or new as a whole: all are gone
-    × (reads (made p (Id (track 1) 0 (0xA1 ∷ 0 ∷ 0 ∷ 1 ∷ 0 ∷ 2 ∷ 0 ∷ 0 ∷ [])) (after 6))
+    × (reads (afterWrite p (Id (track 1) 0 (0xA1 ∷ 0 ∷ 0 ∷ 1 ∷ 0 ∷ 2 ∷ 0 ∷ 0 ∷ [])) (after 6))
     ≡ Bytes (1 ∷ 2 ∷ []) ∷ Missing 0x14 ∷ Bytes (5 ∷ 6 ∷ []) ∷ Missing 0x1E ∷ Missing 0x1E ∷ Missing 0x1E ∷ [])
-unfolding reads contentOf found p slot ofA ofB image old after layoutOf laid place layAt emptyFrom afterWrites made writeOf writeWith pick splice part contentAt contentIn readBytes sectorFound sectorFrom sectorIn whereOf
+unfolding reads contentOf found p slot ofA ofB image old after layoutOf laid place layAt emptyFrom afterWrites afterWrite writeOf writeWith pick splice part contentAt contentIn readBytes sectorFound sectorFrom sectorIn whereOf
     whereBy firstId slotId slotData trackBytes idIn ownId takenBy slotUsed firstBelow firstFrom holds idBytes idFor flagOf partnerOf
 lost = (refl, refl, refl)

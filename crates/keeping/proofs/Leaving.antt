@@ -13,8 +13,8 @@ use Rattle.track.specs.declared.state.State.the-variants.{Moved}
 use Rattle.track.specs.Id.{idBytes, idFor}
 use Rattle.track.specs.Image.{Fits, trackBytes, withTrack, slotId}
 use Rattle.track.proofs.Laws.{id-length, track-back, length-track, length-with-track, track-same, track-other}
-use Rattle.keeping.specs.Keep.{made, leaveId, afterWrites, Mapped, Keepable}
-use Rattle.keeping.proofs.Writes.{withId, length-with-id, id-same, id-other, made-id}
+use Rattle.keeping.specs.Keep.{afterWrite, leaveId, afterWrites, Mapped, Keepable}
+use Rattle.keeping.proofs.Writes.{withId, length-with-id, id-same, id-other, id-in-track}
 use Rattle.keeping.proofs.Order.{leave-more}
 use Rattle.keeping.proofs.Copying.{Copied, CopiedAt, copied}
 use Rattle.keeping.proofs.Before.{unmoved-track}
@@ -54,14 +54,14 @@ module _ (p : Params) (from to : Track) (map image : List ℕ) (fits : Fits p im
         ids = λ k h l. absurd (omega arith);
       }
 
-  left-more : (now next : List ℕ) (j : ℕ) → next ≡ made p (leaveId p from to map j) now → j < p .sectors → Left p from to map image now j → Left p from to map image next (suc j)
+  left-more : (now next : List ℕ) (j : ℕ) → next ≡ afterWrite p (leaveId p from to map j) now → j < p .sectors → Left p from to map image now j → Left p from to map image next (suc j)
   left-more now next j e hj x = record {
     there = x .there;
     here = withId p j (leftId p from to map j) (x .here);
     there-long = x .there-long;
     here-long = length-with-id p (x .here) (x .here-long) j (leftId p from to map j) hj (id-length _);
-    is = e ∙ ap (made p (leaveId p from to map j)) (x .is)
-        ∙ made-id p from j (leftId p from to map j) (x .here) (withTrack p to (x .there) image) (there-fits (x .there) (x .there-long)) (may .from-in) hj (x .here-long) (id-length _);
+    is = e ∙ ap (afterWrite p (leaveId p from to map j)) (x .is)
+        ∙ id-in-track p from j (leftId p from to map j) (x .here) (withTrack p to (x .there) image) (there-fits (x .there) (x .there-long)) (may .from-in) hj (x .here-long) (id-length _);
     copied = x .copied;
     ids = λ k h l. by k h l (ℕ-discrete j k);
   }

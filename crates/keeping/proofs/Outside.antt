@@ -6,12 +6,12 @@ use Prim.Native.Nat.{ℕ, _+_, _≤_, _<_}
 use lib.ListN.{length}
 use native.Mathlib.Omega.{arith}
 use Rattle.base.specs.Part.{part}
-use Rattle.base.proofs.Parts.{part-before, part-after}
+use Rattle.base.proofs.Parts.{part-after}
 use Rattle.geometry.specs.declared.params.Params.{Params}
 use Rattle.geometry.specs.declared.params.Track.{Track}
 use Rattle.geometry.specs.Params.{trackCount, trackSize, imageLength, trackStart}
 use Rattle.track.specs.Image.{Fits, trackBytes, withTrack}
-use Rattle.track.proofs.Laws.{track-room, length-with-track}
+use Rattle.track.proofs.Laws.{track-room, length-with-track, label-kept}
 use Rattle.keeping.specs.Keep.{Mapped, Keepable}
 use Rattle.keeping.specs.Power.{Interrupted}
 use Rattle.keeping.proofs.Before.{unmoved-length, unmoved-track}
@@ -22,8 +22,7 @@ use Rattle.keeping.proofs.Phases.{Phase, phase}
 beyond-track : (p : Params) (t : Track) (image bytes : List ℕ) → t .0 < trackCount p → imageLength p ≤ length image → length bytes ≡ trackSize p
     → (at size : ℕ) → (at + size ≤ 16) ⊎ (imageLength p ≤ at) → part at size (withTrack p t bytes image) ≡ part at size image
 unfolding withTrack
-beyond-track p t image bytes h fits l at size (inl before) =
-    part-before at size (trackStart p t) bytes image (omega arith) (omega (arith, l, track-room p t (length image) h fits))
+beyond-track p t image bytes h fits l at size (inl before) = label-kept p image fits t bytes h l at size before
 beyond-track p t image bytes h fits l at size (inr past) =
     part-after at size (trackStart p t) bytes image (omega (arith, l, track-room p t (imageLength p) h (omega arith))) (omega (arith, l, track-room p t (length image) h fits))
 

@@ -10,8 +10,8 @@ use lib.ListN.{length}
 use Rattle.geometry.specs.declared.params.Params.{Params}
 use Rattle.geometry.specs.declared.params.Track.{Track}
 use Rattle.track.specs.Image.{Fits}
-use Rattle.keeping.specs.Keep.{Write, Id, Body, made, writeOf, afterWrites, Mapped, Keepable}
-use Rattle.keeping.specs.Power.{mayTear, bytesOf, withBytes, Cut, unbegun, finished, torn, Interrupted}
+use Rattle.keeping.specs.Keep.{Write, Id, Body, afterWrite, writeOf, afterWrites, Mapped, Keepable}
+use Rattle.keeping.specs.Power.{mayTear, newBytes, withBytes, Cut, unbegun, finished, torn, Interrupted}
 use Rattle.keeping.proofs.Order.{halves, write-id, write-body, write-leave, writes-more, leave-more}
 use Rattle.keeping.proofs.Copying.{body-length, Unmoved, unmoved-body, copied}
 use Rattle.keeping.proofs.Leaving.{Left, left}
@@ -22,16 +22,16 @@ unfolding mayTear
 id-whole w t k bytes e may = false≢true (sym (ap mayTear e) ∙ may)
 
 -- data may be anything of their length
-torn-body : (p : Params) (w : Write) (t : Track) (k : ℕ) (bytes any now after : List ℕ) → w ≡ Body t k bytes → length any ≡ length (bytesOf w) → after ≡ made p (withBytes any w) now
-    → (length any ≡ length bytes) × (after ≡ made p (Body t k any) now)
-unfolding bytesOf withBytes
-torn-body p w t k bytes any now after e l z = (l ∙ ap (λ (v : Write). length (bytesOf v)) e, z ∙ ap (λ (v : Write). made p (withBytes any v) now) e)
+torn-body : (p : Params) (w : Write) (t : Track) (k : ℕ) (bytes any now after : List ℕ) → w ≡ Body t k bytes → length any ≡ length (newBytes w) → after ≡ afterWrite p (withBytes any w) now
+    → (length any ≡ length bytes) × (after ≡ afterWrite p (Body t k any) now)
+unfolding newBytes withBytes
+torn-body p w t k bytes any now after e l z = (l ∙ ap (λ (v : Write). length (newBytes v)) e, z ∙ ap (λ (v : Write). afterWrite p (withBytes any v) now) e)
 
 module _ (p : Params) (from to : Track) (map image : List ℕ) (fits : Fits p image) (maps : Mapped (p .sectors) map) (may : Keepable p from to image) where
   -- data under way in B's slot
   torn-copy : (now after : List ℕ) (i k : ℕ) → k < p .sectors → (i ≡ k * 2) ⊎ (i ≡ k * 2 + 1) → Unmoved p from to map image now
-      → (any : List ℕ) → mayTear (writeOf p from to map image i) ≡ true → length any ≡ length (bytesOf (writeOf p from to map image i))
-      → after ≡ made p (withBytes any (writeOf p from to map image i)) now → Unmoved p from to map image after
+      → (any : List ℕ) → mayTear (writeOf p from to map image i) ≡ true → length any ≡ length (newBytes (writeOf p from to map image i))
+      → after ≡ afterWrite p (withBytes any (writeOf p from to map image i)) now → Unmoved p from to map image after
   torn-copy now after i k h (inl e) u any tear l z =
       absurd (id-whole _ _ _ _ (ap (writeOf p from to map image) e ∙ write-id p from to map image k h) tear)
   torn-copy now after i k h (inr e) u any tear l z =
@@ -55,7 +55,7 @@ module _ (p : Params) (from to : Track) (map image : List ℕ) (fits : Fits p im
       → (after ≡ afterWrites p from to map image (p .sectors * 2 + j)) ⊎ (after ≡ afterWrites p from to map image (p .sectors * 2 + suc j))
   cut-leave after j h (unbegun e) = inl e
   cut-leave after j h (finished e) =
-      inr (e ∙ ap (λ (w : Write). made p w (afterWrites p from to map image (p .sectors * 2 + j))) (write-leave p from to map image j h) ∙ sym (leave-more p from to map image j h))
+      inr (e ∙ ap (λ (w : Write). afterWrite p w (afterWrites p from to map image (p .sectors * 2 + j))) (write-leave p from to map image j h) ∙ sym (leave-more p from to map image j h))
   cut-leave after j h (torn any tear l z) = absurd (id-whole _ _ _ _ (write-leave p from to map image j h) tear)
 
   abbrev pub LeftSome : (after : List ℕ) → Type 0

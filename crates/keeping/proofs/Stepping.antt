@@ -6,17 +6,15 @@ use native.Mathlib.Omega.{arith}
 use native.Mathlib.Decide.{decLt}
 use native.Mathlib.Numerals.{add-one}
 use lib.ListN.{length, getD}
-use borrow.Author.Tests.{le-ltb}
-use Rattle.base.proofs.Decide.{pick-false}
 use Rattle.geometry.specs.declared.params.Params.{Params}
 use Rattle.geometry.specs.declared.params.Track.{Track}
 use Rattle.geometry.specs.Params.{trackCount}
 use Rattle.track.specs.Image.{Fits, trackBytes, slotData}
 use Rattle.track.proofs.Laws.{on-same, located-there, located-in}
 use Rattle.contents.specs.Content.{readBytes}
-use Rattle.keeping.specs.Keep.{Write, made, writeWith, sectorsOf, notedData, writeOf, afterWrites, Mapped, Noting, Located, Keepable}
+use Rattle.keeping.specs.Keep.{Write, afterWrite, writeWith, sectorsOf, notedData, writeOf, afterWrites, Mapped, Noting, Located, Keepable}
 use Rattle.keeping.proofs.Reading.{content-slot}
-use Rattle.keeping.proofs.Order.{writes-none, writes-more}
+use Rattle.keeping.proofs.Order.{leave-at, writes-none, writes-more}
 use Rattle.keeping.proofs.Copying.{copied}
 use Rattle.keeping.proofs.Before.{unmoved-track}
 use Rattle.keeping.proofs.Outside.{same-length}
@@ -30,8 +28,7 @@ module _ (p : Params) (from to : Track) (map : List ℕ) (x y : ℕ → List ℕ
 
   -- one of A's looks at none
   write-late : p .sectors * 2 ≤ i → writeWith p from to map x i ≡ writeWith p from to map y i
-  unfolding writeWith
-  write-late h = pick-false _ _ _ (le-ltb _ _ h) ∙ sym (pick-false _ _ _ (le-ltb _ _ h))
+  write-late h = leave-at p from to map x i h ∙ sym (leave-at p from to map y i h)
 
 -- ---- the slots noted
 module _ (p : Params) (from : Track) (slots image : List ℕ) (located : Located p from slots image) where
@@ -79,13 +76,13 @@ module _ (p : Params) (from to : Track) (map image : List ℕ) (fits : Fits p im
   stepped-fits = record { within = fits .within; long = omega (arith, fits .long, stepped-length) }
 
   pub stepped-more : (slots : List ℕ) → Located p from slots image → (next : List ℕ) → i < count
-      → next ≡ made p (writeWith p from to map (notedData p from slots now) i) now → Stepped p from to map image next count (i + 1)
+      → next ≡ afterWrite p (writeWith p from to map (notedData p from slots now) i) now → Stepped p from to map image next count (i + 1)
   stepped-more slots located next h e =
       let same : writeWith p from to map (notedData p from slots now) i ≡ writeOf p from to map image i =
       ap (λ (x : List ℕ). writeWith p from to map (notedData p from slots x) i) (w .is) ∙ write-same p from to map slots image fits maps may located i in
       record {
         most = omega arith;
-        is = e ∙ ap (λ (x : Write). made p x now) same ∙ ap (made p (writeOf p from to map image i)) (w .is) ∙ sym (writes-more p from to map image i)
+        is = e ∙ ap (λ (x : Write). afterWrite p x now) same ∙ ap (afterWrite p (writeOf p from to map image i)) (w .is) ∙ sym (writes-more p from to map image i)
             ∙ ap (afterWrites p from to map image) (sym (add-one i));
       }
 

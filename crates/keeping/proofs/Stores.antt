@@ -4,10 +4,8 @@ use mathlib.Core.List.{List}
 use Prim.Native.Nat.{ℕ, _+_, _-_, _*_, _/_, _%_, _≤_, _<_}
 use native.Mathlib.Omega.{arith}
 use lib.ListN.{length, getD}
-use borrow.Author.Tests.{eq-eqb, ne-eqb, lt-ltb, le-ltb}
 use borrow.Rule.Slice.PartMut.{putMid}
 use Rattle.base.specs.Part.{part, splice}
-use Rattle.base.proofs.Decide.{pick-true, pick-false}
 use Rattle.base.proofs.Parts.{cell-in, part-part, splice-lent}
 use Rattle.geometry.specs.declared.params.Params.{Params}
 use Rattle.geometry.specs.declared.params.Track.{Track}
@@ -18,7 +16,8 @@ use Rattle.track.specs.State.{partnerOf}
 use Rattle.track.specs.Id.{idBytes, idFor}
 use Rattle.track.specs.Image.{trackBytes, slotData}
 use Rattle.track.proofs.Laws.{track-room}
-use Rattle.keeping.specs.Keep.{Write, slotStart, made, writeWith}
+use Rattle.keeping.specs.Keep.{Write, slotStart, afterWrite, writeWith}
+use Rattle.keeping.proofs.Order.{leave-at, id-at, body-at}
 
 -- ---- slot k of track t
 -- within any image that is long enough
@@ -50,23 +49,26 @@ module _ (p : Params) (t : Track) (k place : ℕ) (e : place ≡ slotStart p t k
       ∙ sym (part-part (trackStart p from) (trackSize p) (j * slotSize p + 8) (p .size) image (omega (arith, cell-in (slotSize p) j (p .sectors) hj))) in
       en ∙ ap (λ (i : ℕ). splice (i + 8) (part (source + 8) (p .size) image) image) e ∙ ap (λ (b : List ℕ). splice (slotStart p t k + 8) b image) there
 
--- ---- which write step i is
+-- ---- what step i leaves is write i
 module _ (p : Params) (from to : Track) (map : List ℕ) (sectors : ℕ → List ℕ) (image now : List ℕ) (i : ℕ) where
+  is-write : (w : Write) → writeWith p from to map sectors i ≡ w → now ≡ afterWrite p w image → now ≡ afterWrite p (writeWith p from to map sectors i) image
+  is-write w e is = is ∙ ap (λ (w : Write). afterWrite p w image) (sym e)
+
   pub step-leave : p .sectors * 2 ≤ i → now ≡ splice (slotStart p from (i - p .sectors * 2)) (idBytes (idFor p from (Moved to) (getD map (i - p .sectors * 2) 0))) image
-      → now ≡ made p (writeWith p from to map sectors i) image
-  unfolding writeWith made
-  step-leave h e = e ∙ sym (ap (λ (w : Write). made p w image) (pick-false _ _ _ (le-ltb _ _ h)))
+      → now ≡ afterWrite p (writeWith p from to map sectors i) image
+  unfolding afterWrite
+  step-leave h e = is-write _ (leave-at p from to map sectors i h) e
 
   module _ (h : i < p .sectors * 2) where
     pub step-id : i % 2 ≡ 0 → now ≡ splice (slotStart p to (i / 2)) (idBytes (idFor p to (Taken from) (getD map (i / 2) 0))) image
-        → now ≡ made p (writeWith p from to map sectors i) image
-    unfolding writeWith made
-    step-id r e = e ∙ sym (ap (λ (w : Write). made p w image) (pick-true _ _ _ (lt-ltb _ _ h) ∙ pick-true _ _ _ (eq-eqb _ _ r)))
+        → now ≡ afterWrite p (writeWith p from to map sectors i) image
+    unfolding afterWrite
+    step-id r e = is-write _ (id-at p from to map sectors i h r) e
 
     pub step-body : (i % 2 ≡ 0 → ⊥) → now ≡ splice (slotStart p to (i / 2) + 8) (sectors (getD map (i / 2) 0)) image
-        → now ≡ made p (writeWith p from to map sectors i) image
-    unfolding writeWith made
-    step-body r e = e ∙ sym (ap (λ (w : Write). made p w image) (pick-true _ _ _ (lt-ltb _ _ h) ∙ pick-false _ _ _ (ne-eqb _ _ r)))
+        → now ≡ afterWrite p (writeWith p from to map sectors i) image
+    unfolding afterWrite
+    step-body r e = is-write _ (body-at p from to map sectors i h r) e
 
 -- a partner is a track of the drive
 module _ (p : Params) (within : Within p) (u : Track) (h : u .0 < trackCount p) where

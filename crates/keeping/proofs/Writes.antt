@@ -14,7 +14,7 @@ use Rattle.geometry.specs.declared.params.Track.{Track}
 use Rattle.geometry.specs.Params.{trackCount, slotSize, trackSize, imageLength, trackStart}
 use Rattle.track.specs.Image.{withTrack, slotId, slotData, withData}
 use Rattle.track.proofs.Laws.{track-room, slot-room}
-use Rattle.keeping.specs.Keep.{Id, Body, made}
+use Rattle.keeping.specs.Keep.{Id, Body, afterWrite}
 
 -- ---- a slot's ID in a track's stretch
 unfoldable pub withId : Params → (k : ℕ) → (id bytes : List ℕ) → List ℕ
@@ -51,15 +51,15 @@ module _ (p : Params) (bytes : List ℕ) (l : length bytes ≡ trackSize p) (k :
 
 -- ---- a write in a track that was put into an image
 module _ (p : Params) (t : Track) (k : ℕ) (written bytes image : List ℕ) (fits : imageLength p ≤ length image) (h : t .0 < trackCount p) (hk : k < p .sectors) (l : length bytes ≡ trackSize p) where
-  pub made-id : length written ≡ 8 → made p (Id t k written) (withTrack p t bytes image) ≡ withTrack p t (withId p k written bytes) image
-  unfolding made withTrack withId
-  made-id e =
+  pub id-in-track : length written ≡ 8 → afterWrite p (Id t k written) (withTrack p t bytes image) ≡ withTrack p t (withId p k written bytes) image
+  unfolding afterWrite withTrack withId
+  id-in-track e =
       splice-inside (trackStart p t) (trackSize p) (k * slotSize p) written bytes image l
       (omega (arith, e, slot-room p bytes l k hk)) (track-room p t (length image) h fits)
 
-  pub made-body : length written ≡ p .size → made p (Body t k written) (withTrack p t bytes image) ≡ withTrack p t (withData p k written bytes) image
-  unfolding made withTrack withData
-  made-body e =
+  pub body-in-track : length written ≡ p .size → afterWrite p (Body t k written) (withTrack p t bytes image) ≡ withTrack p t (withData p k written bytes) image
+  unfolding afterWrite withTrack withData
+  body-in-track e =
       let z : trackStart p t + k * slotSize p + 8 ≡ trackStart p t + (k * slotSize p + 8) = omega arith in
       ap (λ (i : ℕ). splice i written (splice (trackStart p t) bytes image)) z
       ∙ splice-inside (trackStart p t) (trackSize p) (k * slotSize p + 8) written bytes image l

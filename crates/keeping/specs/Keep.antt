@@ -45,9 +45,9 @@ pub data Write : Type 0 where
 abbrev pub slotStart : Params → Track → (k : ℕ) → ℕ
 slotStart p t k = trackStart p t + k * slotSize p
 
-unfoldable pub made : Params → Write → (image : List ℕ) → List ℕ
-made p (Id t k bytes) image = splice (slotStart p t k) bytes image
-made p (Body t k bytes) image = splice (slotStart p t k + 8) bytes image
+unfoldable pub afterWrite : Params → Write → (image : List ℕ) → List ℕ
+afterWrite p (Id t k bytes) image = splice (slotStart p t k) bytes image
+afterWrite p (Body t k bytes) image = splice (slotStart p t k + 8) bytes image
 
 -- ---- The writes of a move, where `sectors` has the data of A's sectors
 -- B's slot k: its ID, taken by A; its data, those of the sector that the map puts there.
@@ -78,7 +78,7 @@ writeOf p from to map image i = writeWith p from to map (sectorsOf p from image)
 -- The first i writes are made.
 unfoldable pub afterWrites : Params → (from to : Track) → (map image : List ℕ) → (i : ℕ) → List ℕ
 afterWrites p from to map image zero = image
-afterWrites p from to map image (suc i) = made p (writeOf p from to map image i) (afterWrites p from to map image i)
+afterWrites p from to map image (suc i) = afterWrite p (writeOf p from to map image i) (afterWrites p from to map image i)
 
 -- All of them are: A is moved.
 unfoldable pub kept : Params → (from to : Track) → (map image : List ℕ) → List ℕ

@@ -6,7 +6,7 @@ use mathlib.Core.List.{List}
 use lib.ListN.{length}
 use Rattle.geometry.specs.declared.params.Track.{Track}
 use Rattle.geometry.specs.declared.params.Params.{Params}
-use Rattle.keeping.specs.Keep.{Write, Id, Body, made, writeOf, afterWrites}
+use Rattle.keeping.specs.Keep.{Write, Id, Body, afterWrite, writeOf, afterWrites}
 
 -- Data under way may be torn, an ID may not.
 unfoldable pub mayTear : Write → Bool
@@ -14,9 +14,9 @@ mayTear (Id t k bytes) = false
 mayTear (Body t k bytes) = true
 
 -- A write's bytes, and the write with others in their place.
-unfoldable pub bytesOf : Write → List ℕ
-bytesOf (Id t k bytes) = bytes
-bytesOf (Body t k bytes) = bytes
+unfoldable pub newBytes : Write → List ℕ
+newBytes (Id t k bytes) = bytes
+newBytes (Body t k bytes) = bytes
 
 unfoldable pub withBytes : (any : List ℕ) → Write → Write
 withBytes any (Id t k bytes) = Id t k any
@@ -25,8 +25,8 @@ withBytes any (Body t k bytes) = Body t k any
 -- A write is cut short: it has not begun, or it is finished, an ID as a whole; data under way are anything of their length, in their place.
 pub data Cut (p : Params) (w : Write) (before after : List ℕ) : Type 0 where
   unbegun : after ≡ before → Cut p w before after
-  finished : after ≡ made p w before → Cut p w before after
-  torn : (any : List ℕ) → mayTear w ≡ true → length any ≡ length (bytesOf w) → after ≡ made p (withBytes any w) before → Cut p w before after
+  finished : after ≡ afterWrite p w before → Cut p w before after
+  torn : (any : List ℕ) → mayTear w ≡ true → length any ≡ length (newBytes w) → after ≡ afterWrite p (withBytes any w) before → Cut p w before after
 
 -- Finished writes stand, later ones did not begin: the first i writes are made, and the next, write i of 3n, is cut short.
 pub record Interrupted (p : Params) (from to : Track) (map image after : List ℕ) : Type 0 where

@@ -14,7 +14,7 @@ ghost use Rattle.geometry.specs.Params.{Within, trackCount};
 ghost use Rattle.track.specs.State.{partnerOf};
 ghost use Rattle.track.specs.Id.{idBytes, idFor};
 ghost use Rattle.track.specs.Image.{Fits, trackBytes, slotData};
-ghost use Rattle.keeping.specs.Keep.{slotStart, made, writeWith, notedData, afterWrites, kept, Mapped, Noting, Located, Keepable};
+ghost use Rattle.keeping.specs.Keep.{slotStart, afterWrite, writeWith, notedData, afterWrites, kept, Mapped, Noting, Located, Keepable};
 
 // Where slot k of track t begins in an image.
 fn slot_start(p: Params, t: Track, k: usize) -> usize
@@ -58,7 +58,7 @@ pub fn keep_step(
 )
     requires { ⌜ Fits p (now image) × (from .0 < trackCount p) × (to .0 < trackCount p) × Mapped (p .sectors) (now map)
         × Noting (p .sectors) (now slots) × (i < p .sectors * 3) ⌝ }
-    ensures { λ _. ⌜ now (image .exit) ≡ made p
+    ensures { λ _. ⌜ now (image .exit) ≡ afterWrite p
         (writeWith p from to (now (map .entry)) (notedData p from (now (slots .entry)) (now (image .entry))) i) (now (image .entry)) ⌝ }
 {
     let copies = p.sectors * 2;

@@ -210,9 +210,7 @@ pub fn more_frames<E: Engine>(make: &impl Fn(&Controller) -> E) {
         ("046000000100", "006200"),
         ("036000000000", "00600004600000"),
     ];
-    for (line, printed) in lines {
-        assert_eq!(bench.frame(line), printed, "line {line}");
-    }
+    bench.prints(&lines);
 }
 
 /// Frames with copies (request E5): a line that begins with 20h has ten block bytes.
@@ -256,9 +254,7 @@ pub fn copy_frames<E: Engine>(make: &impl Fn(&Controller) -> E) {
         ("2060000001C000000000", "006200"),
         ("036000000000", "00600004600000"),
     ];
-    for (line, printed) in lines {
-        assert_eq!(bench.frame(line), printed, "line {line}");
-    }
+    bench.prints(&lines);
 }
 
 /// Frames with assignments that keep a track's contents (request E7).
@@ -289,24 +285,32 @@ pub fn keep_frames<E: Engine>(make: &impl Fn(&Controller) -> E) {
         ("030000000000", "0000009D000028"),
         ("FF", "000000"),
         ("080000050100", &read),
-        // A bad track has nothing to keep, but may be moved.
-        ("040000000100", "000000"),
-        ("070000050100", "000000"),
-        ("0E0000070290000028", "000200"),
-        ("030000000000", "00000099000007"),
-        ("0E0000070280000028", "000000"),
-        // The other commands and floppies do not have bit 4.
-        ("060000400110", "000200"),
-        ("030000000000", "00000022000000"),
-        ("0E4000000110000000", "004200"),
-        ("034000000000", "00400022400000"),
     ];
-    for (line, printed) in lines {
-        assert_eq!(bench.frame(line), printed, "line {line}");
-    }
+    bench.prints(&lines);
+    bench.prints(&NOT_KEPT);
 }
 
+/// A bad track has nothing to keep, but may be moved; the other commands and floppies do not have bit 4.
+const NOT_KEPT: [(&str, &str); 9] = [
+    ("040000000100", "000000"),
+    ("070000050100", "000000"),
+    ("0E0000070290000028", "000200"),
+    ("030000000000", "00000099000007"),
+    ("0E0000070280000028", "000000"),
+    ("060000400110", "000200"),
+    ("030000000000", "00000022000000"),
+    ("0E4000000110000000", "004200"),
+    ("034000000000", "00400022400000"),
+];
+
 impl<E: Engine> Bench<E> {
+    /// Gives the program frames these lines; it prints what is beside them.
+    fn prints(&mut self, lines: &[(&str, &str)]) {
+        for (line, printed) in lines {
+            assert_eq!(self.frame(line), *printed, "line {line}");
+        }
+    }
+
     /// What the program frames prints for a line.
     fn frame(&mut self, line: &str) -> String {
         let Some(bytes) = read_hex(line).filter(|bytes| bytes.len() <= 1030) else {

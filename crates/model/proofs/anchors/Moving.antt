@@ -20,8 +20,8 @@ use Rattle.track.specs.Find.{takenBy, whereBy, whereOf, holds, slotUsed, sector
 use Rattle.track.specs.Pair.{stateBy, stateOf}
 use Rattle.formatter.specs.Format.{slotMade, slotsMade, formatted}
 use Rattle.contents.specs.Content.{readBytes, contentIn, contentAt}
-use Rattle.keeping.specs.Power.{mayTear, bytesOf, withBytes, torn, finished}
-use Rattle.keeping.specs.Keep.{codeOf, firstMissing, keepCode, made, writeWith, writeOf, afterWrites, kept}
+use Rattle.keeping.specs.Power.{mayTear, newBytes, withBytes, torn, finished}
+use Rattle.keeping.specs.Keep.{codeOf, firstMissing, keepCode, afterWrite, writeWith, writeOf, afterWrites, kept}
 use Rattle.model.specs.declared.table.Command.the-variants.{OnDisk}
 use Rattle.model.specs.declared.table.DiskCommand.the-variants.{TrackWork}
 use Rattle.model.specs.declared.table.TrackCommand.the-variants.{AssignAlternate}
@@ -97,7 +97,7 @@ moves :
     × (left (sent 3 0 6 half)
     ≡ image (ofA 0 2 2 0x6C 0x6C) (ofA 2 2 2 0x6C 0x6C) (ofA 1 2 2 0x6C 0x6C) (ofB 0 3 1 0x6C 0x6C) (ofB 2 3 1 0x6C 0x6C) (ofB 1 3 1 0x6C 0x6C) ++ (71 ∷ 72 ∷ 73 ∷ []))
 unfolding p slot ofA ofB under image old old-under half moved controller sent left saying layoutOf laid place layAt emptyFrom carryOut doDisk doTrack asEffect assignAlternate assignTests missingIn alternated assigned
-    keeps keepCode firstMissing codeOf kept afterWrites made writeOf writeWith madeAt plainByte plainFill fillOf fromBuffer mediumOf isFloppy blockOf alternateOf judged unlessNamed
+    keeps keepCode firstMissing codeOf kept afterWrites afterWrite writeOf writeWith madeAt plainByte plainFill fillOf fromBuffer mediumOf isFloppy blockOf alternateOf judged unlessNamed
     good failed sensed senseOf addressed isBad isMoved isTaken isTakenByOther stateOf stateBy withTrack formatted slotsMade slotMade withSector rows pick splice part
     contentAt contentIn readBytes sectorFound sectorFrom sectorIn whereOf whereBy firstId slotId slotData trackBytes idIn ownId takenBy slotUsed firstBelow firstFrom holds
     idBytes idFor flagOf partnerOf
@@ -114,7 +114,7 @@ refused :
     × (map (λ (first : List ℕ). saying (sent 1 0x10 6 (old-under first))) (slot 0xA1 0 0 1 0 0 0 0 1 2 ∷ slot 0xA1 0 0 0 0 4 0 0 1 2 ∷ slot 0xA1 0 0 0 0 1 0 0 1 2 ∷ [])
     ≡ (0 ∷ 2 ∷ 0 ∷ 0 ∷ 0x95 ∷ 0 ∷ 0 ∷ 1 ∷ []) ∷ (0 ∷ 2 ∷ 0 ∷ 0 ∷ 0x90 ∷ 0 ∷ 0 ∷ 1 ∷ []) ∷ (0 ∷ 2 ∷ 0 ∷ 0 ∷ 0x99 ∷ 0 ∷ 0 ∷ 1 ∷ []) ∷ [])
 unfolding p slot ofA ofB under image old old-under half moved controller sent left saying layoutOf laid place layAt emptyFrom carryOut doDisk doTrack asEffect assignAlternate assignTests missingIn alternated assigned
-    keeps keepCode firstMissing codeOf kept afterWrites made writeOf writeWith madeAt plainByte plainFill fillOf fromBuffer mediumOf isFloppy blockOf alternateOf judged unlessNamed
+    keeps keepCode firstMissing codeOf kept afterWrites afterWrite writeOf writeWith madeAt plainByte plainFill fillOf fromBuffer mediumOf isFloppy blockOf alternateOf judged unlessNamed
     good failed sensed senseOf addressed isBad isMoved isTaken isTakenByOther stateOf stateBy withTrack formatted slotsMade slotMade withSector rows pick splice part
     contentAt contentIn readBytes sectorFound sectorFrom sectorIn whereOf whereBy firstId slotId slotData trackBytes idIn ownId takenBy slotUsed firstBelow firstFrom holds
     idBytes idFor flagOf partnerOf
@@ -125,8 +125,8 @@ block : List ℕ
 block = 0x0E ∷ 0 ∷ 0 ∷ 3 ∷ 2 ∷ 0x10 ∷ []
 
 cuts : CutShort p block (0 ∷ 0 ∷ 6 ∷ []) old half × CutShort p block (0 ∷ 0 ∷ 6 ∷ []) old moved
-unfolding block mayTear bytesOf withBytes p slot ofA ofB under image old old-under half moved controller sent left saying layoutOf laid place layAt emptyFrom carryOut doDisk doTrack asEffect assignAlternate assignTests missingIn alternated assigned
-    keeps keepCode firstMissing codeOf kept afterWrites made writeOf writeWith madeAt plainByte plainFill fillOf fromBuffer mediumOf isFloppy blockOf alternateOf judged unlessNamed
+unfolding block mayTear newBytes withBytes p slot ofA ofB under image old old-under half moved controller sent left saying layoutOf laid place layAt emptyFrom carryOut doDisk doTrack asEffect assignAlternate assignTests missingIn alternated assigned
+    keeps keepCode firstMissing codeOf kept afterWrites afterWrite writeOf writeWith madeAt plainByte plainFill fillOf fromBuffer mediumOf isFloppy blockOf alternateOf judged unlessNamed
     good failed sensed senseOf addressed isBad isMoved isTaken isTakenByOther stateOf stateBy withTrack formatted slotsMade slotMade withSector rows pick splice part
     contentAt contentIn readBytes sectorFound sectorFrom sectorIn whereOf whereBy firstId slotId slotData trackBytes idIn ownId takenBy slotUsed firstBelow firstFrom holds
     idBytes idFor flagOf partnerOf

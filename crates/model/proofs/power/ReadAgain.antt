@@ -41,8 +41,8 @@ module _ (c : Controller) (images : List (List ℕ)) (p : Params) (B : Track) (c
   abbrev here : ℕ
   here = blockOf read .drive
 
-  abbrev kept : List (List ℕ)
-  kept = leftImages here images cut
+  abbrev after-cut : List (List ℕ)
+  after-cut = leftImages here images cut
 
   single : isCopy read ≡ false
   single = other-row read _ (o .command) (λ e. let z : _≡_ {A = ℕ} 0 1 = cc in omega arith)
@@ -50,7 +50,7 @@ module _ (c : Controller) (images : List (List ℕ)) (p : Params) (B : Track) (c
   entire : isWhole read ≡ true
   entire = six-whole read single (o .six)
 
-  same-effect : SameRead (obey (blockOf read) sent (length room) (driveAt (fresh kept) here) (fresh kept .buffer) (imageOf here kept))
+  same-effect : SameRead (obey (blockOf read) sent (length room) (driveAt (fresh after-cut) here) (fresh after-cut .buffer) (imageOf here after-cut))
       (obey (blockOf read) sent (length room) (driveAt c here) (c .buffer) (imageOf here images))
   same-effect =
       rw (
@@ -61,7 +61,7 @@ module _ (c : Controller) (images : List (List ℕ)) (p : Params) (B : Track) (c
       (again-view here (f .below) images cut (driveAt c here) p (f .long) (f .label) force label (f .calm)) force
       (λ i l on. f .reads (further (blockOf read .address) i) on (o .outside i l)))
 
-  four : here < length (fresh kept .drives)
+  four : here < length (fresh after-cut .drives)
   unfolding fresh
   four = f .below
 
@@ -69,10 +69,10 @@ module _ (c : Controller) (images : List (List ℕ)) (p : Params) (B : Track) (c
   unfolding resetOf
   its-read =
       let s = same-effect in (
-        call-answer (fresh kept) read sent room kept entire single ∙ s .answer ∙ sym (call-answer c read sent room images entire single),
-        call-area (fresh kept) read sent room kept entire single ∙ ap (λ (l : List ℕ). splice 0 l room) (s .handed) ∙ sym (call-area c read sent room images entire single),
+        call-answer (fresh after-cut) read sent room after-cut entire single ∙ s .answer ∙ sym (call-answer c read sent room images entire single),
+        call-area (fresh after-cut) read sent room after-cut entire single ∙ ap (λ (l : List ℕ). splice 0 l room) (s .handed) ∙ sym (call-area c read sent room images entire single),
         λ zero.
-            ap (λ (x : Drive). x .sense) (call-entry (fresh kept) read sent room kept entire single four)
+            ap (λ (x : Drive). x .sense) (call-entry (fresh after-cut) read sent room after-cut entire single four)
             ∙ s .sense (sym (ap (λ (r : Answer). r .number) (call-answer c read sent room images entire single)) ∙ zero)
             ∙ sym (ap (λ (x : Drive). x .sense) (call-entry c read sent room images entire single (has-entry c here _ p force))),
       )

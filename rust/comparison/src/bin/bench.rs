@@ -225,7 +225,7 @@ fn commands<'a>(engine: &'a mut impl Engine, disk: &'a Disk, row: Row) -> Run<'a
 }
 
 /// A copy of as many bytes as a command moves: a transfer's from or to the image, a format's slot by
-/// slot, each from an ID and a sector, a moved track's sectors from one place of the image to another.
+/// slot, each from an ID and a sector, a move's from track to track.
 fn copy(disk: &Disk, row: Row) -> Option<Run<'_, Memory>> {
     let run: Run<Memory> = match row {
         Row::ReadOne | Row::ReadMany => {
@@ -258,17 +258,22 @@ fn copy(disk: &Disk, row: Row) -> Option<Run<'_, Memory>> {
                 }
             }
         }),
-        Row::Keep => Box::new(move |memory, calls| {
-            let bytes = disk.slots() as usize * disk.size;
-            for _ in 0..calls {
-                let (a, b) = disk.pair(memory.address(disk, 1));
-                let [from, to] = [a, b].map(|first| first as usize * disk.size);
-                black_box(&mut memory.spare).copy_within(from..from + bytes, to);
-            }
-        }),
+        Row::Keep => copy_track(disk),
         Row::TestReady | Row::CheckTrack => return None,
     };
     Some(run)
+}
+
+/// A moved track's sectors, from one place of the image to another.
+fn copy_track(disk: &Disk) -> Run<'_, Memory> {
+    Box::new(move |memory, calls| {
+        let bytes = disk.slots() as usize * disk.size;
+        for _ in 0..calls {
+            let (a, b) = disk.pair(memory.address(disk, 1));
+            let [from, to] = [a, b].map(|first| first as usize * disk.size);
+            black_box(&mut memory.spare).copy_within(from..from + bytes, to);
+        }
+    })
 }
 
 /// A fill of as many bytes as a format writes.
