@@ -141,15 +141,12 @@ other-kind t (moved u) ne = refl
 other-kind t (taken u) ne = ap not (ne-eqb (u .0) (t .0) (λ e. ne (ap taken (same-track u t e))))
 
 -- what is missing in A, where keep asks for it: nothing in a sound track, 19h in a bad one
-asked-sound : (keep : Bool) (a : Lba) → pick (not (eqb (pick keep 0 0) 0)) (Faulty (pick keep 0 0) a) Passed ≡ pick (keep && false) (Faulty 0x19 a) Passed
+asked : (keep spoilt : Bool) (a : Lba)
+    → pick (not (eqb (pick keep (pick spoilt 0x19 0) 0) 0)) (Faulty (pick keep (pick spoilt 0x19 0) 0) a) Passed ≡ pick (keep && spoilt) (Faulty 0x19 a) Passed
 unfolding pick
-asked-sound true a = refl
-asked-sound false a = refl
-
-asked-bad : (keep : Bool) (a : Lba) → pick (not (eqb (pick keep 0x19 0) 0)) (Faulty (pick keep 0x19 0) a) Passed ≡ pick (keep && true) (Faulty 0x19 a) Passed
-unfolding pick
-asked-bad true a = refl
-asked-bad false a = refl
+asked true true a = refl
+asked true false a = refl
+asked false spoilt a = refl
 
 -- ---- Check Track's code, by the track's kind
 module _ (a : Lba) where
@@ -270,15 +267,11 @@ module _ (p : Params) (w : Within p) (kind : Track → Kind) (inter : Track → 
     says-past stateA stateB missing e = rw (past-last (b .0), e)
 
     -- sound or bad: B by its kind, which is not taken by A, since A is not moved; then what is missing in A
-    says-sound : kind A ≡ sound → (kind B ≡ taken A → ⊥) → engineSays Sound (stateFor (kind B)) 0 ≡ machineSays
-    unfolding judged assignTests unassignable movedState takenState isMoved isTaken isBad pick
-    says-sound e other =
-        rw (e, past-last (b .0), eqb-turned (B .0) (A .0), other-kind A (kind B) other, moved-kind (kind B), bad-kind (kind B), asked-sound keep a)
-
-    says-bad : kind A ≡ bad → (kind B ≡ taken A → ⊥) → engineSays Bad (stateFor (kind B)) 0x19 ≡ machineSays
-    unfolding judged assignTests unassignable movedState takenState isMoved isTaken isBad pick
-    says-bad e other =
-        rw (e, past-last (b .0), eqb-turned (B .0) (A .0), other-kind A (kind B) other, moved-kind (kind B), bad-kind (kind B), asked-bad keep a)
+    says-here : (k : Kind) (missing : ℕ) → kind A ≡ k → isMoved k ≡ false → isTaken k ≡ false → missing ≡ pick (isBad k) 0x19 0 → (kind B ≡ taken A → ⊥)
+        → engineSays (stateFor k) (stateFor (kind B)) missing ≡ machineSays
+    unfolding judged assignTests unassignable
+    says-here k missing e m t z other =
+        rw (e, z, moved-kind k, taken-kind k, m, t, past-last (b .0), eqb-turned (B .0) (A .0), other-kind A (kind B) other, moved-kind (kind B), bad-kind (kind B), asked keep (isBad k) a)
 
     module _ (h : A .0 < trackCount p) where
       -- A is not moved: B is not taken by it
@@ -287,13 +280,14 @@ module _ (p : Params) (w : Within p) (kind : Track → Kind) (inter : Track → 
       not-by-first k e off hb taken-by = true≢false (sym (ap isMoved (sym e ∙ mirror .takes B A hb taken-by .returned)) ∙ off)
 
       inside : B .0 < trackCount p → (k : Kind) → kind A ≡ k → engineSays (stateFor k) (stateFor (kind B)) (keepCode p A image) ≡ machineSays
-      unfolding stateFor isMoved
+      unfolding stateFor isMoved isTaken isBad pick
       inside hb stateless e = absurd (mirror .stated A h e)
       inside hb sound e =
-          rw (sound-code p A (inter A) image (omega (arith, w .sectors-some)) (sound-formed p kind inter held image mirror A h e)) (says-sound e (not-by-first sound e refl hb))
+          let code = sound-code p A (inter A) image (omega (arith, w .sectors-some)) (sound-formed p kind inter held image mirror A h e) in
+          says-here sound _ e refl refl code (not-by-first sound e refl hb)
       inside hb bad e =
           let off = where-bad p A (inter A) image (omega (arith, w .sectors-some)) (bad-formed p kind inter held image mirror A h e) in
-          rw (missing-off p A image 0x19 off w) (says-bad e (not-by-first bad e refl hb))
+          says-here bad _ e refl refl (missing-off p A image 0x19 off w) (not-by-first bad e refl hb)
       inside hb (moved u) e = says-moved u _ _ e
       inside hb (taken u) e = says-taken u _ _ e
 
