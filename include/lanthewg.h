@@ -18,7 +18,7 @@
 #include <stddef.h>
 #include <stdint.h>
 
-#define LANTHEWG_VERSION "0.7.0"
+#define LANTHEWG_VERSION "0.8.0"
 
 /* An answer that nobody looks at is a warning, where the compiler can say so. */
 #if defined(__GNUC__)
@@ -125,7 +125,7 @@ enum {
     LANTHEWG_BLOCK_SIZE = 6,
     LANTHEWG_COPY_BLOCK_SIZE = 10, /* of a block that begins with LANTHEWG_OPCODE_COPY, and of no other */
     LANTHEWG_SENSE_SIZE = 4,       /* what Request Sense hands over */
-    LANTHEWG_CONFIG_SIZE = 10,     /* what Initialize takes */
+    LANTHEWG_CONFIG_SIZE = 10,     /* what Initialize takes; a hard disk's bytes 7-8 at most its cylinders, or all ten its label's */
     LANTHEWG_ALTERNATE_SIZE = 3,   /* what Assign Alternate takes */
     LANTHEWG_BUFFER_SIZE = 512,    /* what Write Buffer takes and Read Buffer hands over */
     LANTHEWG_LARGEST_AREA = 131072,

@@ -81,8 +81,8 @@ static void loaded(const uint8_t configs[4][10], const char *what) {
 /* Configuration, known and pending, then the image, then the count of sectors: each drive's its own. */
 static void drives(void) {
     static const uint8_t configs[4][10] = {
-        {0, 3, 1, 0, 1, 9, 8, 7, 6, 11},
-        {0, 2, 1, 0, 2, 6, 7, 8, 9, 10},
+        {0, 3, 1, 0, 1, 9, 8, 0, 2, 11},
+        {0, 2, 1, 0, 2, 6, 7, 0, 1, 10},
         {0, 5, 2, 0x31, 0, 1, 2, 3, 4, 250},
         {0, 4, 1, 0x01, 0, 5, 6, 7, 8, 9},
     };

@@ -1,5 +1,5 @@
 -- Document 01, 'Parameters': when ten configuration bytes are valid with an image, and when a label is.
-use mathlib.Core.Bool.{Bool, true, false, _&&_}
+use mathlib.Core.Bool.{Bool, true, false, _&&_, _||_}
 use mathlib.Core.List.{List, [], _∷_}
 use Prim.Native.Nat.{ℕ, _+_, _*_, _/_, _%_}
 use lib.ListN.{length, getD}
@@ -15,7 +15,7 @@ use Rattle.geometry.specs.declared.config.Setting.{Setting}
 use Rattle.geometry.specs.declared.config.Setting.the-variants.{Valid, Invalid}
 use Rattle.geometry.specs.declared.config.Size.{Size}
 use Rattle.geometry.specs.Params.{imageLength}
-use Rattle.geometry.specs.Medium.{isIn, rangesOf}
+use Rattle.geometry.specs.Medium.{isFloppy, isIn, rangesOf}
 
 -- Byte 4: 0 for D = 128 data bytes and n = 16 sectors a track, 1 for D = 256 and n = 32, 2 for D = 512 and n = 17.
 abbrev pub sizes : List Size
@@ -68,3 +68,8 @@ labelSetting medium image =
 -- These ten bytes are a valid label's: the six zeros and the image's length count too.
 unfoldable pub labelHolds : Medium → (image config : List ℕ) → Bool
 labelHolds medium image config = isValid (labelSetting medium image) && sameBytes (labelConfig image) config
+
+-- ---- Request E8, a bound of Initialize alone: a configuration and a label above it are valid all the same
+-- On a hard disk bytes 7-8, the cylinder from which on the drive precompensates, high byte first, are at most the cylinder count.
+abbrev pub precompensationIn : Medium → (config : List ℕ) → Bool
+precompensationIn medium c = isFloppy medium || leb (byte c 7 * 256 + byte c 8) (byte c 0 * 256 + byte c 1)

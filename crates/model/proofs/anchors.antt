@@ -6,6 +6,7 @@ pub mod Moving
 pub mod Formatting
 pub mod Configurations
 pub mod Initializing
+pub mod Precompensation
 pub mod Damage
 pub mod DamageEnds
 pub mod CopyDamage

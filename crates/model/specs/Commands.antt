@@ -16,7 +16,7 @@ use Rattle.geometry.specs.declared.config.Setting.{Setting}
 use Rattle.geometry.specs.declared.config.Setting.the-variants.{Valid, Invalid}
 use Rattle.geometry.specs.Params.{trackCount, trackOf, lastAddress, further}
 use Rattle.geometry.specs.Medium.{mediumOf, isFloppy}
-use Rattle.geometry.specs.Config.{settingOf, labelRest, labelHolds}
+use Rattle.geometry.specs.Config.{settingOf, isValid, labelRest, labelHolds, precompensationIn}
 use Rattle.interleave.specs.Layout.{layoutOf}
 use Rattle.track.specs.declared.state.State.{State}
 use Rattle.track.specs.declared.state.State.the-variants.{Sound, Bad, Moved, Taken}
@@ -151,18 +151,23 @@ assignAlternate b p buffer given entry image =
     (b .drive) entry (λ e. made e image)
     (made (good (b .drive) 0 0 entry) (alternated b p A B buffer image))
 
--- ---- 11h Initialize: takes the 10 configuration bytes; not valid, 22h. They come into force, not pending where they are a
--- valid label's (request E1), else pending. The image is untouched.
+-- ---- 11h Initialize: takes the 10 configuration bytes. A valid label's own come into force, not pending (request E1), whatever
+-- their precompensation; others come into force, pending, if they are valid with precompensation in its bound (request E8), else
+-- 22h. The image is untouched.
 unfoldable pub initialized : (config : List ℕ) → (pending : Bool) → Drive → Drive
 initialized config pending entry = record { sense = entry .sense; config = config; known = true; pending = pending }
 
-unfoldable pub initializedBy : Setting → Block → (config : List ℕ) → Drive → (image : List ℕ) → Ending
-initializedBy Invalid b config entry image = failed (b .drive) (b .drive) 0x22 (b .address) 0 0 entry
-initializedBy (Valid p) b config entry image =
-    good (b .drive) 0 0 (initialized config (not (labelHolds (mediumOf (b .drive)) image config)) entry)
+unfoldable pub initializedBy : (held fits : Bool) → Block → (config : List ℕ) → Drive → Ending
+initializedBy held fits b config entry =
+    pick (held || fits)
+    (good (b .drive) 0 0 (initialized config (not held) entry))
+    (failed (b .drive) (b .drive) 0x22 (b .address) 0 0 entry)
 
 unfoldable pub initialize : Block → (given : List ℕ) → Drive → (image : List ℕ) → Ending
-initialize b given entry image = initializedBy (settingOf (mediumOf (b .drive)) (part 0 10 given) (length image)) b (part 0 10 given) entry image
+initialize b given entry image =
+    let medium = mediumOf (b .drive) in
+    let config = part 0 10 given in
+    initializedBy (labelHolds medium image config) (isValid (settingOf medium config (length image)) && precompensationIn medium config) b config entry
 
 -- ---- The commands by their groups, once their checks have passed, up to their own
 -- 03 hands over 4 bytes and leaves the sense as it is; 0Fh takes 512 bytes, 10h hands over 512.

@@ -21,7 +21,7 @@ use Rattle.geometry.specs.declared.config.Setting.{Setting}
 use Rattle.geometry.specs.declared.config.Setting.the-variants.{Valid, Invalid}
 use Rattle.geometry.specs.Params.{trackCount, trackOf, next, further, track}
 use Rattle.geometry.specs.Medium.{mediumOf}
-use Rattle.geometry.specs.Config.{settingOf}
+use Rattle.geometry.specs.Config.{settingOf, isValid, precompensationIn}
 use Rattle.model.specs.declared.block.Block.{Block}
 use Rattle.model.specs.declared.block.CopyBlock.{CopyBlock}
 use Rattle.model.specs.declared.table.Command.{Command}
@@ -340,21 +340,27 @@ assignAlternate b p given m u =
     (well b 0 []
     (withDisk (b .drive) (assignTo p (keeps b) (trackOf p (b .address)) (trackOf p (addressGiven given)) (b .extra) (filling b p m) u) m))
 
--- Initialize: not valid, 22h; else in force, not pending where it is the configuration stored (request E1), else pending.
+-- Initialize: the configuration stored, which is valid, comes into force, not pending (request E1); another, pending, if it is valid
+-- with precompensation in its bound (request E8), else 22h.
 unfoldable pub isStored : Option (List ℕ) → (config : List ℕ) → Bool
 isStored none config = false
 isStored (some stored) config = sameBytes stored config
 
-unfoldable pub initializeBy : Setting → Block → (config : List ℕ) → Machine → Disk → Reply × Machine
-initializeBy Invalid b config m u = failing b 0x22 (b .address) 0 [] m
-initializeBy (Valid p) b config m u = well b 0 [] (withDisk (b .drive) (inForce (some config) (not (isStored (u .stored) config)) u) m)
+unfoldable pub initializeBy : (held fits : Bool) → Block → (config : List ℕ) → Machine → Disk → Reply × Machine
+initializeBy held fits b config m u =
+    pick (held || fits)
+    (well b 0 [] (withDisk (b .drive) (inForce (some config) (not held) u) m))
+    (failing b 0x22 (b .address) 0 [] m)
 
 -- ---- The commands, once their checks have passed
 unfoldable pub freely : Block → (given : List ℕ) → Machine → Disk → FreeCommand → Reply × Machine
 freely b given m u RequestSense = (well b 0 (m .senses (b .drive)) m .0, m)
 freely b given m u WriteBuffer = well b 0 [] (withBuffer (take 512 given) m)
 freely b given m u ReadBuffer = well b 0 (m .buffer) m
-freely b given m u Initialize = initializeBy (settingOf (mediumOf (b .drive)) (take 10 given) (u .len)) b (take 10 given) m u
+freely b given m u Initialize =
+    let medium = mediumOf (b .drive) in
+    let config = take 10 given in
+    initializeBy (isStored (u .stored) config) (isValid (settingOf medium config (u .len)) && precompensationIn medium config) b config m u
 
 unfoldable pub seeking : Block → Machine → ArmCommand → Reply × Machine
 seeking b m TestReady = well b 0 [] m

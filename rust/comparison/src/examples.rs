@@ -290,6 +290,41 @@ pub fn keep_frames<E: Engine>(make: &impl Fn(&Controller) -> E) {
     bench.prints(&NOT_KEPT);
 }
 
+/// Frames with a precompensation, configuration bytes 7-8, up to the cylinder count and above it
+/// (request E8).
+pub fn bound_frames<E: Engine>(make: &impl Fn(&Controller) -> E) {
+    let mut bench = Bench::fresh(make, FRAMES);
+    // Three cylinders. 9C40h is the mistyped sheet's 40,000; 0300h is 3 with its low byte first.
+    let lines = [
+        ("110000000000000301000100009C400B", "000200"),
+        ("030000000000", "00000022000000"),
+        ("000000000000", "000200"),
+        ("030000000000", "0000000A000000"),
+        ("1100000000000003010001000000040B", "000200"),
+        ("1100000000000003010001000003000B", "000200"),
+        ("1100000000000003010001000000030B", "000000"),
+        // Refused bytes leave those in force, which are pending.
+        ("11000000000000030100010000FFFF0B", "000200"),
+        ("0B0000000000", "000200"),
+        ("030000000000", "00000016000000"),
+        ("040000000100", "000000"),
+        ("11000000000000030100010000FFFF0B", "000200"),
+        ("0B0000000000", "000000"),
+        ("1100000000000003010001000000030B", "000000"),
+        ("0B0000000000", "000000"),
+        // The label has another number, and is left.
+        ("1100000000000003010001000000000B", "000000"),
+        ("0B0000000000", "000200"),
+        ("FF", "000000"),
+        ("1100000000000003010001000000030B", "000000"),
+        ("0B0000000000", "000000"),
+        // Bytes 5-6 are any, and drive 1 has the bound too.
+        ("1120000000000003010001FFFF00040B", "002200"),
+        ("1120000000000003010001FFFF00030B", "002000"),
+    ];
+    bench.prints(&lines);
+}
+
 /// A bad track has nothing to keep, but may be moved; the other commands and floppies do not have bit 4.
 const NOT_KEPT: [(&str, &str); 9] = [
     ("040000000100", "000000"),

@@ -70,6 +70,17 @@ impl Drive {
         config.and_then(|config| Geometry::read(self.kind, &config, self.image_length))
     }
 
+    /// Whether Initialize may bring in a configuration that is not the stored one (request E8): a
+    /// hard disk's precompensation is at most its cylinder count.
+    fn may_bring_in(&self, config: Config) -> bool {
+        let [.., high, low, _] = config;
+        let precompensation = u32::from_be_bytes([0, 0, high, low]);
+        self.geometry(Some(config)).is_some_and(|geometry| match self.kind {
+            Kind::HardDisk => precompensation <= geometry.cylinders,
+            Kind::Floppy => true,
+        })
+    }
+
     /// The geometry of a command that was admitted with parameters.
     fn admitted(&self) -> Geometry {
         self.geometry(self.in_force).expect("admitted with parameters")
@@ -219,11 +230,12 @@ impl Machine {
     fn initialize(&mut self, request: &Request, given: &[u8]) -> Result<(), Fault> {
         let drive = &mut self.drives[request.drive];
         let config: Config = given[..10].try_into().expect("ten bytes");
-        if drive.geometry(Some(config)).is_none() {
+        let is_stored = drive.stored == Some(config);
+        if !is_stored && !drive.may_bring_in(config) {
             return Err(request.fault(0x22));
         }
         drive.in_force = Some(config);
-        drive.pending = drive.stored != Some(config);
+        drive.pending = !is_stored;
         Ok(())
     }
 

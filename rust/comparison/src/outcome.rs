@@ -159,15 +159,18 @@ impl Outcome {
         paper::condition(self.image(request), geometry, track)
     }
 
+    /// Bytes equal to a valid label's are taken whatever their precompensation is (request E8).
     fn initialize(&mut self, request: &Request, given: &[u8]) -> Result<(), Fault> {
         let config = given[..10].try_into().expect("ten bytes");
-        let image = self.image(request);
-        if Geometry::read(request.kind(), &config, image.len()).is_none() {
+        let (kind, image) = (request.kind(), self.image(request));
+        let is_label = paper::label(kind, image) == Some(config);
+        let is_valid = Geometry::read(kind, &config, image.len()).is_some();
+        let is_beyond = kind.rules().bound && paper::is_beyond(&config);
+        if !is_label && (!is_valid || is_beyond) {
             return Err(request.fault(0x22));
         }
-        let pending = paper::label(request.kind(), image) != Some(config);
         let record = &mut self.setting.controller.drives[request.drive];
-        (record.config, record.known, record.pending) = (config, true, pending);
+        (record.config, record.known, record.pending) = (config, true, !is_label);
         Ok(())
     }
 

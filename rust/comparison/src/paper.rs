@@ -41,6 +41,8 @@ pub struct Rules {
     /// Configuration byte 4, with n and D.
     pub sizes: &'static [(u8, u32, usize)],
     pub byte_9: RangeInclusive<u8>,
+    /// Whether Initialize refuses a precompensation above the cylinder count (request E8).
+    pub bound: bool,
     pub fill: u8,
     /// Whether control bit 5 lets a format fill from the buffer.
     pub bit_5: bool,
@@ -55,6 +57,7 @@ static HARD_DISK: Rules = Rules {
     low_nibble: 0..=1,
     sizes: &[(1, 32, 256), (2, 17, 512)],
     byte_9: 0..=11,
+    bound: true,
     fill: 0x6C,
     bit_5: true,
     refused: &[],
@@ -67,6 +70,7 @@ static FLOPPY: Rules = Rules {
     low_nibble: 1..=1,
     sizes: &[(0, 16, 128)],
     byte_9: 0..=255,
+    bound: false,
     fill: 0xE5,
     bit_5: false,
     refused: &[0x05, 0x0E],
@@ -153,6 +157,17 @@ impl Geometry {
             (partner % 256) as u8,
         ]
     }
+}
+
+/// Configuration bytes 7-8: on a hard disk, the cylinder where precompensation begins.
+pub fn precompensation(config: &Config) -> u32 {
+    u32::from(config[7]) * 256 + u32::from(config[8])
+}
+
+/// Whether that number is above the cylinder count. A configuration may be valid all the same, and
+/// so may its label: the bound is Initialize's alone (request E8).
+pub fn is_beyond(config: &Config) -> bool {
+    precompensation(config) > u32::from(config[0]) * 256 + u32::from(config[1])
 }
 
 /// The configuration of a label that is valid on such a drive.

@@ -61,6 +61,8 @@ struct Kind {
     sizes: &'static [Size],
     /// The highest configuration byte 9.
     most_last: u8,
+    /// Whether Initialize wants a precompensation, configuration bytes 7-8, of at most the cylinders.
+    bounds_precompensation: bool,
     /// As long as the longest sector.
     fill: [u8; BUFFER],
     /// Whether control bit 5 makes the buffer the fill.
@@ -84,6 +86,7 @@ static HARD_DISK: Kind = Kind {
     fixed_bits: 0x00,
     sizes: &[Size { code: 1, sectors: 32, data: 256 }, Size { code: 2, sectors: 17, data: 512 }],
     most_last: 11,
+    bounds_precompensation: true,
     fill: [0x6C; BUFFER],
     fills_from_buffer: true,
     has_alternates: true,
@@ -97,6 +100,7 @@ static FLOPPY: Kind = Kind {
     fixed_bits: 0x01,
     sizes: &[Size { code: 0, sectors: 16, data: 128 }],
     most_last: 255,
+    bounds_precompensation: false,
     fill: [0xE5; BUFFER],
     fills_from_buffer: false,
     has_alternates: false,
@@ -104,6 +108,17 @@ static FLOPPY: Kind = Kind {
 
 /// The kind of each drive.
 static KINDS: [&Kind; 4] = [&HARD_DISK, &HARD_DISK, &FLOPPY, &FLOPPY];
+
+impl Kind {
+    /// Whether Initialize takes bytes that are not the label's. Labels may be older than the bound, so
+    /// that it is no part of a geometry.
+    fn takes(&self, config: &[u8; CONFIG], image_length: usize) -> bool {
+        // Both numbers have the high byte first, so that they compare as their bytes do.
+        let within = config[7..9] <= config[..2];
+        (within || !self.bounds_precompensation)
+            && Geometry::of(self, config, image_length).is_some()
+    }
+}
 
 /// What a call returns.
 #[derive(Clone, Copy, Debug, Default, PartialEq, Eq)]
@@ -907,10 +922,10 @@ impl Controller {
             return Err(fault(0x04));
         }
         let config = take(given)?;
-        if Geometry::of(block.kind(), config, image.len()).is_none() {
+        let pending = valid_label(block.kind(), image) != Some(config);
+        if pending && !block.kind().takes(config, image.len()) {
             return Err(fault(0x22));
         }
-        let pending = valid_label(block.kind(), image) != Some(config);
         let drive = &mut self.drives[block.drive];
         (drive.config, drive.known, drive.pending) = (*config, true, pending);
         Ok(())

@@ -122,7 +122,34 @@ impl Scale {
     }
 }
 
-/// A configuration that is valid on such a drive with an image long enough.
+/// A precompensation above so many cylinders: by one, as on the mistyped sheet, one that would be good
+/// with its low byte first, or any.
+fn beyond(random: &mut Random, cylinders: u32) -> u32 {
+    let turned = u32::from((cylinders as u16).swap_bytes());
+    let any = cylinders + 1 + random.below(0xFFFF - cylinders);
+    random.pick(&[cylinders + 1, 40_000, turned, any]).max(cylinders + 1)
+}
+
+/// A precompensation that Initialize mostly takes on a hard disk of so many cylinders (request E8).
+fn any_precompensation(random: &mut Random, cylinders: u32) -> u32 {
+    match random.below(100) {
+        0..=14 => beyond(random, cylinders),
+        15..=34 => cylinders,
+        _ => random.below(cylinders),
+    }
+}
+
+fn set_precompensation(config: &mut Config, number: u32) {
+    config[7..9].copy_from_slice(&(number as u16).to_be_bytes());
+}
+
+/// Whether Initialize takes such bytes only as a label's own.
+fn is_refused_anew(kind: Kind, config: &Config) -> bool {
+    kind.rules().bound && paper::is_beyond(config)
+}
+
+/// A configuration that is valid on such a drive with an image long enough. Initialize mostly takes
+/// it.
 fn any_config(random: &mut Random, scale: Scale, kind: Kind) -> Config {
     let rules = kind.rules();
     let (most_cylinders, most_heads) = (*rules.cylinders.end(), *rules.heads.end());
@@ -137,6 +164,9 @@ fn any_config(random: &mut Random, scale: Scale, kind: Kind) -> Config {
     let (size, _, _) = random.pick(rules.sizes);
     let mut config = [high, low, heads as u8, 0, size, 0, 0, 0, 0, 0];
     random.fill(&mut config[5..9]);
+    if rules.bound {
+        set_precompensation(&mut config, any_precompensation(random, cylinders));
+    }
     config[3] = 16 * random.within(&rules.high_nibble) + random.within(&rules.low_nibble);
     config[9] = random.within(&rules.byte_9);
     config
@@ -161,6 +191,8 @@ fn spoil_config(random: &mut Random, config: &mut Config) {
         (3, nibbles & 0x0F),
         (4, 0),
         (4, 1 + random.below(3) as u8),
+        (7, 1 + random.below(255) as u8),
+        (8, 0xFF),
         (9, 12),
         (9, 0xFF),
     ];
@@ -306,11 +338,20 @@ impl Caller {
         if self.lengths[drive] < LABEL || self.random.chance(5) {
             return self.random.pick(&OPCODES);
         }
+        // Only Initialize tells a label above the bound from others.
+        if self.has_label_beyond(drive) && self.random.chance(6) {
+            return 0x11;
+        }
         match self.beliefs[drive] {
             Belief { in_force: None, .. } => self.random.weighted(&ON_UNKNOWN),
             Belief { pending: true, .. } => self.random.weighted(&ON_PENDING),
             _ => self.opcode_on_formatted(Kind::of(drive)),
         }
+    }
+
+    fn has_label_beyond(&self, drive: usize) -> bool {
+        let stored = self.beliefs[drive].stored;
+        stored.is_some_and(|config| is_refused_anew(Kind::of(drive), &config))
     }
 
     /// A command that this kind of drive refuses is drawn anew, mostly.
@@ -580,17 +621,21 @@ impl Caller {
 
     fn initialize(&mut self, draft: &mut Draft) {
         let drive = draft.drive;
+        let own = if self.has_label_beyond(drive) { 75 } else { 50 };
         let mut config = match self.beliefs[drive].stored {
-            Some(stored) if self.random.chance(50) => self.nearly(stored),
+            Some(stored) if self.random.chance(own) => self.nearly(stored),
             _ => self.new_config(drive),
         };
         if self.random.chance(12) {
             spoil_config(&mut self.random, &mut config);
         }
-        if Geometry::read(Kind::of(drive), &config, self.lengths[drive]).is_some() {
+        let kind = Kind::of(drive);
+        let is_stored = self.beliefs[drive].stored == Some(config);
+        let is_good = is_stored || !is_refused_anew(kind, &config);
+        if is_good && Geometry::read(kind, &config, self.lengths[drive]).is_some() {
             let belief = &mut self.beliefs[drive];
             belief.in_force = Some(config);
-            belief.pending = belief.stored != Some(config);
+            belief.pending = !is_stored;
         }
         draft.given = config.to_vec();
     }
@@ -603,12 +648,14 @@ impl Caller {
             .unwrap_or_else(|| any_config(&mut self.random, Scale::Small, kind))
     }
 
-    /// A stored configuration, sometimes with one bit changed where it mostly stays valid.
+    /// A stored configuration, sometimes with one bit changed where it mostly stays valid. Of a hard
+    /// disk's precompensation a low bit is changed as often as any: Initialize may still take it.
     fn nearly(&mut self, mut config: Config) -> Config {
         if self.random.chance(30) {
-            let at = self.random.pick(&[3, 5, 6, 7, 8, 9]);
+            let at = self.random.pick(&[3, 5, 6, 7, 8, 8, 9]);
             config[at] ^= match at {
                 3 => self.random.pick(&[0x01, 0x10]),
+                8 if self.random.chance(50) => self.random.pick(&[1, 2]),
                 9 => 1,
                 _ => 1 << self.random.below(8),
             };
@@ -780,10 +827,14 @@ fn drive_record(random: &mut Random, config: Option<Config>) -> Drive {
 }
 
 /// An image of any length and bytes; mostly formatted by somebody, then damaged. Seldom it is one of
-/// the other kind of drive.
+/// the other kind of drive. A hard disk's label is often one that Initialize would refuse (request
+/// E8): it was written before there was a bound.
 fn damaged_image(random: &mut Random, scale: Scale, kind: Kind, belief: &mut Belief) -> Vec<u8> {
     let kind = if random.chance(6) { random.pick(&Kind::ALL) } else { kind };
-    let (config, geometry) = any_geometry(random, scale, kind);
+    let (mut config, geometry) = any_geometry(random, scale, kind);
+    if kind.rules().bound && random.chance(35) {
+        set_precompensation(&mut config, beyond(random, geometry.cylinders));
+    }
     belief.in_force = Some(config);
     belief.stored = Some(config);
     let mut image = random.bytes(geometry.image_length());

@@ -4,6 +4,7 @@ use std::collections::BTreeMap;
 use std::fmt;
 use std::ops::AddAssign;
 
+use crate::bounds::{self, Met};
 use crate::copies::{self, Side};
 use crate::duplicates;
 use crate::engine::Call;
@@ -32,8 +33,10 @@ pub enum Event {
     /// An Initialize that ended well, by whether it left the drive pending.
     Settled,
     Pending,
-    /// An Initialize that was refused with bytes that the other kind of drive would have taken.
+    /// An Initialize that was refused with bytes that are valid on the other kind of drive.
     OtherKind,
+    /// A call that met the bound of the precompensation, by how it did.
+    Bound(Met),
     /// A format or assignment that ended well with control bit 5.
     BitFive(u8),
     /// An assignment that ended well with control bit 4, or with this code.
@@ -80,6 +83,7 @@ impl Event {
             &[2, 3].map(Event::Number),
             &OPCODES.map(Event::Good),
             &[Event::Settled, Event::Pending, Event::OtherKind],
+            &Met::ALL.map(Event::Bound),
             &[0x04, 0x06, 0x0E].map(Event::BitFive),
             &[Event::Kept, Event::BothBits],
             &keeps::CODES.map(Event::KeepCode),
@@ -114,6 +118,7 @@ impl Event {
                 code == 0x22 || (!floppy && Event::Code(code).is_possible(starts, kind))
             }
             Event::Resent { .. } => !fresh && !floppy,
+            Event::Bound(met) => met.is_possible(starts, kind),
             // On hard disks Assign Alternate has a 22h of its own.
             Event::Refused { opcode, present } => floppy || (opcode == 0x0E && present),
             // A floppy's sectors have 128 bytes, a hard disk's more.
@@ -123,6 +128,14 @@ impl Event {
             Event::Duplicate(_) => !fresh,
             Event::LookedUp => fresh,
             _ => true,
+        }
+    }
+
+    /// How often a comparison has to reach it where it is possible.
+    fn least(self) -> u64 {
+        match self {
+            Event::Bound(_) => bounds::LEAST,
+            _ => 1,
         }
     }
 }
@@ -136,6 +149,7 @@ impl fmt::Display for Event {
             Event::Settled => "11h settled".to_string(),
             Event::Pending => "11h pending".to_string(),
             Event::OtherKind => "11h, the other kind's bytes".to_string(),
+            Event::Bound(met) => met.name().to_string(),
             Event::BitFive(opcode) => format!("{opcode:02X}h good with bit 5"),
             Event::Kept => "0Eh good with bit 4".to_string(),
             Event::KeepCode(code) => format!("0Eh with bit 4: {code:02X}h"),
@@ -216,7 +230,7 @@ impl Tally {
     ) {
         self.calls += 1;
         let Call::Execute { block, given } = call else {
-            self.resets += 1;
+            self.count_reset(drives);
             return;
         };
         if answer.number == 1 {
@@ -229,8 +243,19 @@ impl Tally {
             }
             return;
         }
+        let Request { drive, .. } = Request::read(block);
+        self.count_command(block, given, answer, (&drives[drive], &images[drive]));
+    }
+
+    /// Counts a command of six bytes, with the drive and the image that it left.
+    fn count_command(
+        &mut self,
+        block: &[u8],
+        given: &[u8],
+        answer: &Answer,
+        (drive, image): (&Drive, &[u8]),
+    ) {
         let request = Request::read(block);
-        let (drive, length) = (&drives[request.drive], images[request.drive].len());
         let mut reached = |event| self.add(request.kind(), event, 1);
         if answer.number != 0 {
             reached(Event::Number(answer.number));
@@ -239,12 +264,23 @@ impl Tally {
             reached(Event::Code(code));
             keeps::refused(block, code).map(&mut reached);
             if code == 0x22 {
-                refusal(block, given, length).map(&mut reached);
+                refusal(block, given, image.len()).map(&mut reached);
+                bounds::refused(block, given, image).into_iter().for_each(&mut reached);
                 keeps::both_bits(block).then(|| reached(Event::BothBits));
             }
         } else {
             reached(Event::Good(request.opcode));
-            good_end(block, drive).map(reached);
+            good_end(block, drive).map(&mut reached);
+            bounds::good_end(&request, drive).map(reached);
+        }
+    }
+
+    fn count_reset(&mut self, drives: &[Drive; 4]) {
+        self.resets += 1;
+        for (drive, record) in drives.iter().enumerate() {
+            if let Some(event) = bounds::loaded(record) {
+                self.add(Kind::of(drive), event, 1);
+            }
         }
     }
 
@@ -267,15 +303,16 @@ impl Tally {
         ]
     }
 
-    /// What cannot be and yet was, or has to be reached and was not.
+    /// What cannot be and yet was, or has to be reached and was not, or not often enough.
     pub fn faults(&self, starts: Starts) -> Vec<String> {
         let mut faults = Vec::new();
         for kind in Kind::ALL {
             for event in Event::all() {
-                let reached = self.reached(kind, event) > 0;
-                if reached != event.is_possible(starts, kind) {
-                    let what = if reached { "was reached" } else { "was not reached" };
-                    faults.push(format!("{starts:?}, {kind:?}: {event} {what}"));
+                let count = self.reached(kind, event);
+                let is_possible = event.is_possible(starts, kind);
+                let is_fault = if is_possible { count < event.least() } else { count > 0 };
+                if is_fault {
+                    faults.push(format!("{starts:?}, {kind:?}: {event} was reached {count} times"));
                 }
             }
         }

@@ -1,6 +1,7 @@
 //! What the comparison catches: any change of an outcome, engines that use another slot than the
 //! first of those that hold a sector, engines that take floppies for something else, engines that
-//! copy in another way, and engines that move a track with its contents in another way.
+//! copy in another way, engines that move a track with its contents in another way, and engines that
+//! hold the precompensation to another bound.
 
 mod wrong;
 
@@ -869,6 +870,254 @@ fn wrong_keeps_are_caught() {
     ];
     for (name, six) in where_cut {
         let [lists, damaged] = both_comparisons(six, as_it_should, Controller::reset);
+        assert_eq!(lists, Ok(()), "{name}");
+        println!("{name}: damaged: {}", damaged.expect_err(name));
+    }
+}
+
+/// An Initialize with bytes that are valid on its drive, the bound aside.
+struct Initializing {
+    drive: usize,
+    config: Config,
+    geometry: Geometry,
+    /// The image's first ten bytes, and the label's where it is valid.
+    front: Config,
+    label: Option<Config>,
+    in_force: Option<Config>,
+}
+
+/// What an Initialize comes to.
+#[derive(Clone, Copy, Debug, PartialEq, Eq)]
+enum Verdict {
+    Refused,
+    /// In force, pending or not.
+    Pending,
+    Settled,
+}
+
+impl Initializing {
+    /// None where it is another command, or fails by its block or its data whatever the bound is.
+    fn new(engine: &Controller, lent: &Lent) -> Option<Initializing> {
+        let (drive, kind) = (lent.drive(), lent.kind());
+        let (image, config) = (&*lent.images[drive], *lent.given.first_chunk()?);
+        let geometry = Geometry::read(kind, &config, image.len())?;
+        if lent.block[0] != 0x11 || lent.block[1] >= 0x80 {
+            return None;
+        }
+        let (front, label) = (*image.first_chunk()?, paper::label(kind, image));
+        let record = &engine.drives[drive];
+        let in_force = record.known.then_some(record.config);
+        Some(Initializing { drive, config, geometry, front, label, in_force })
+    }
+
+    fn is_hard_disk(&self) -> bool {
+        Kind::of(self.drive) == Kind::HardDisk
+    }
+
+    fn is_label(&self) -> bool {
+        self.label == Some(self.config)
+    }
+
+    /// The number that two of the bytes are.
+    fn number(&self, high: usize, low: usize) -> u32 {
+        u32::from(self.config[high]) << 8 | u32::from(self.config[low])
+    }
+
+    fn is_beyond(&self) -> bool {
+        self.is_hard_disk() && self.number(7, 8) > self.geometry.cylinders
+    }
+
+    /// What it comes to where this is beyond the bound.
+    fn judged(&self, is_beyond: bool) -> Verdict {
+        if self.is_label() {
+            Verdict::Settled
+        } else if self.is_hard_disk() && is_beyond {
+            Verdict::Refused
+        } else {
+            Verdict::Pending
+        }
+    }
+}
+
+type Judge = fn(&Initializing) -> Verdict;
+
+/// An Initialize that is judged in another way.
+fn wrong_initialize(engine: &mut Controller, mut lent: Lent, judge: Judge) -> Answer {
+    let Some(initializing) = Initializing::new(engine, &lent) else {
+        return lent.right(engine);
+    };
+    let Initializing { drive, config, .. } = initializing;
+    let (verdict, bits) = (judge(&initializing), 32 * drive as u8);
+    if verdict == Verdict::Refused {
+        engine.drives[drive].sense = [0x22, bits, 0, 0];
+        return Answer { status: bits + 2, ..Answer::default() };
+    }
+    let pending = verdict == Verdict::Pending;
+    engine.drives[drive] = Drive { sense: [0, bits, 0, 0], config, known: true, pending };
+    Answer { status: bits, ..Answer::default() }
+}
+
+fn within_bound(lent: &Initializing) -> Verdict {
+    lent.judged(lent.is_beyond())
+}
+
+fn bound_ignored(lent: &Initializing) -> Verdict {
+    lent.judged(false)
+}
+
+fn below_cylinders(lent: &Initializing) -> Verdict {
+    lent.judged(lent.number(7, 8) >= lent.geometry.cylinders)
+}
+
+fn low_byte_first(lent: &Initializing) -> Verdict {
+    lent.judged(lent.number(8, 7) > lent.geometry.cylinders)
+}
+
+fn low_byte_alone(lent: &Initializing) -> Verdict {
+    lent.judged(u32::from(lent.config[8]) > lent.geometry.cylinders)
+}
+
+fn bytes_5_and_6(lent: &Initializing) -> Verdict {
+    lent.judged(lent.number(5, 6) > lent.geometry.cylinders)
+}
+
+fn most_cylinders(lent: &Initializing) -> Verdict {
+    lent.judged(lent.number(7, 8) > 1_024)
+}
+
+fn tracks_for_cylinders(lent: &Initializing) -> Verdict {
+    lent.judged(lent.number(7, 8) > lent.geometry.tracks())
+}
+
+fn drive_0_alone(lent: &Initializing) -> Verdict {
+    lent.judged(lent.is_beyond() && lent.drive == 0)
+}
+
+fn floppies_too(lent: &Initializing) -> Verdict {
+    match lent.number(7, 8) > lent.geometry.cylinders && !lent.is_label() {
+        true => Verdict::Refused,
+        false => within_bound(lent),
+    }
+}
+
+fn bound_before_label(lent: &Initializing) -> Verdict {
+    match lent.is_beyond() {
+        true => Verdict::Refused,
+        false => within_bound(lent),
+    }
+}
+
+fn label_pending(lent: &Initializing) -> Verdict {
+    match lent.is_beyond() && lent.is_label() {
+        true => Verdict::Pending,
+        false => within_bound(lent),
+    }
+}
+
+/// Any label above the bound lifts it.
+fn label_lifts_bound(lent: &Initializing) -> Verdict {
+    lent.judged(lent.is_beyond() && !lent.label.is_some_and(|label| paper::is_beyond(&label)))
+}
+
+/// A label's ten bytes are enough, whatever its other six are.
+fn spoilt_label_taken(lent: &Initializing) -> Verdict {
+    lent.judged(lent.is_beyond() && lent.front != lent.config)
+}
+
+fn in_force_taken(lent: &Initializing) -> Verdict {
+    lent.judged(lent.is_beyond() && lent.in_force != Some(lent.config))
+}
+
+/// Whether a hard disk's configuration is above the bound.
+fn is_above(drive: usize, record: &Drive) -> bool {
+    Kind::of(drive) == Kind::HardDisk && paper::is_beyond(&record.config)
+}
+
+/// 22h, and yet the bytes come into force.
+fn refused_in_force(engine: &mut Controller, mut lent: Lent) -> Answer {
+    let initializing = Initializing::new(engine, &lent);
+    let answer = lent.right(engine);
+    if let Some(Initializing { drive, config, .. }) =
+        initializing.filter(|_| answer.status & 2 != 0)
+    {
+        let sense = engine.drives[drive].sense;
+        engine.drives[drive] = Drive { sense, config, known: true, pending: true };
+    }
+    answer
+}
+
+fn resets_within_bound(engine: &mut Controller, images: [&[u8]; 4]) -> Answer {
+    let answer = engine.reset(images);
+    for (drive, record) in engine.drives.iter_mut().enumerate() {
+        if is_above(drive, record) {
+            *record = Drive::default();
+        }
+    }
+    answer
+}
+
+/// Parameters above the bound count as none.
+fn bound_at_each_call(engine: &mut Controller, mut lent: Lent) -> Answer {
+    let drive = lent.drive();
+    if lent.block[0] == 0x11 || !is_above(drive, &engine.drives[drive]) {
+        return lent.right(engine);
+    }
+    let known = std::mem::replace(&mut engine.drives[drive].known, false);
+    let answer = lent.right(engine);
+    engine.drives[drive].known = known;
+    answer
+}
+
+/// Format Drive writes no label above the bound.
+fn label_cut_to_bound(engine: &mut Controller, mut lent: Lent) -> Answer {
+    let (answer, drive) = (lent.right(engine), lent.drive());
+    let good = answer.number == 0 && answer.status & 2 == 0;
+    if lent.block[0] == 0x04 && good && is_above(drive, &engine.drives[drive]) {
+        lent.images[drive].copy_within(..2, 7);
+    }
+    answer
+}
+
+#[test]
+fn wrong_bounds_are_caught() {
+    let judged: Command = |e, lent| wrong_initialize(e, lent, within_bound);
+    let right = both_comparisons(judged, as_it_should, Controller::reset);
+    assert_eq!(right, [Ok(()), Ok(())], "this judge is right");
+    let everywhere: [(&str, Command); 10] = [
+        ("the bound ignored", |e, lent| wrong_initialize(e, lent, bound_ignored)),
+        ("below the cylinder count", |e, lent| wrong_initialize(e, lent, below_cylinders)),
+        ("low byte first", |e, lent| wrong_initialize(e, lent, low_byte_first)),
+        ("the low byte alone", |e, lent| wrong_initialize(e, lent, low_byte_alone)),
+        ("bytes 5-6", |e, lent| wrong_initialize(e, lent, bytes_5_and_6)),
+        ("at most 1,024", |e, lent| wrong_initialize(e, lent, most_cylinders)),
+        ("at most the track count", |e, lent| wrong_initialize(e, lent, tracks_for_cylinders)),
+        ("on drive 0 alone", |e, lent| wrong_initialize(e, lent, drive_0_alone)),
+        ("on floppies too", |e, lent| wrong_initialize(e, lent, floppies_too)),
+        ("refused, and in force", refused_in_force),
+    ];
+    for (name, six) in everywhere {
+        let [lists, damaged] = both_comparisons(six, as_it_should, Controller::reset);
+        println!("{name}: lists: {}", lists.expect_err(name));
+        println!("{name}: damaged: {}", damaged.expect_err(name));
+    }
+}
+
+/// No list from zero images gives a hard disk a label above the bound, so it takes given ones.
+#[test]
+fn wrong_bounds_of_labels_are_caught() {
+    let commands: [(&str, Command); 7] = [
+        ("before the label", |e, lent| wrong_initialize(e, lent, bound_before_label)),
+        ("a label pending", |e, lent| wrong_initialize(e, lent, label_pending)),
+        ("lifted by any label", |e, lent| wrong_initialize(e, lent, label_lifts_bound)),
+        ("a spoilt label's bytes", |e, lent| wrong_initialize(e, lent, spoilt_label_taken)),
+        ("bytes in force", |e, lent| wrong_initialize(e, lent, in_force_taken)),
+        ("at each call", bound_at_each_call),
+        ("Format Drive cuts it", label_cut_to_bound),
+    ];
+    let commands = commands.map(|(name, six)| (name, six, Controller::reset as Reset));
+    let at_reset = ("at Reset", as_it_should as Command, resets_within_bound as Reset);
+    for (name, six, reset) in commands.into_iter().chain([at_reset]) {
+        let [lists, damaged] = both_comparisons(six, as_it_should, reset);
         assert_eq!(lists, Ok(()), "{name}");
         println!("{name}: damaged: {}", damaged.expect_err(name));
     }

@@ -1,7 +1,7 @@
 //! The header's constants under the same names, without `LANTHEWG_` (a test holds them equal).
 
 /// The version of header, wrapper and engine.
-pub const VERSION: &str = "0.7.0";
+pub const VERSION: &str = "0.8.0";
 
 // Byte 0 of a block. Byte 1 has 32 × drive. A block has BLOCK_SIZE bytes, a Copy's COPY_BLOCK_SIZE.
 pub const OPCODE_TEST_READY: u8 = 0x00;
@@ -174,7 +174,8 @@ pub const BLOCK_SIZE: usize = 6;
 pub const COPY_BLOCK_SIZE: usize = 10;
 /// What Request Sense hands over.
 pub const SENSE_SIZE: usize = 4;
-/// What Initialize takes.
+/// What Initialize takes. On a hard disk bytes 7 and 8, precompensation, are at most the cylinder
+/// count; above it is [`SENSE_NOT_VALID`], unless all ten bytes are those of the disk's valid label.
 pub const CONFIG_SIZE: usize = 10;
 /// What Assign Alternate takes.
 pub const ALTERNATE_SIZE: usize = 3;

@@ -7,7 +7,7 @@ use lib.ListN.{set, replicate}
 use Rattle.base.specs.Pick.{pick}
 use Rattle.base.specs.Part.{part}
 use Rattle.base.specs.Same.{sameBytes}
-use Rattle.geometry.specs.Medium.{mediumOf, isIn, rangesOf}
+use Rattle.geometry.specs.Medium.{mediumOf, isFloppy, isIn, rangesOf}
 use Rattle.geometry.specs.Config.{sizeFor, fittedTo, fieldsIn, settingBy, settingOf, isValid, labelSetting, labelHolds}
 use Rattle.model.specs.declared.record.Drive.{Drive}
 use Rattle.model.specs.declared.record.Controller.{Controller}
@@ -54,7 +54,7 @@ initializing :
     -- the image
     × (imageOf 0 (sends own (replicate 6 0) .images) ≡ labelled (replicate 6 0))
 unfolding own other entry before labelled sends leaves execute onDrive left obey unlessNamed viewOf imageOf carryOut doFree initialize initializedBy
-    initialized labelHolds isValid labelSetting mediumOf settingOf settingBy fieldsIn isIn rangesOf sizeFor fittedTo part sameBytes pick blockOf
+    initialized labelHolds isValid labelSetting mediumOf isFloppy settingOf settingBy fieldsIn isIn rangesOf sizeFor fittedTo part sameBytes pick blockOf
     addressed senseOf blankDrive driveAt sensed failed good rowFor checkNumber isAmong judge judged inOrder hitsOf isUnknown blockWrong presentWith
     bytesOf isWhole blockLength isCopy
 initializing = (refl, refl, refl, refl, refl, refl)

@@ -1,7 +1,7 @@
 -- The commands that need no parameters: Request Sense, the buffer's, Initialize.
 use Prim.Native.Nat.{ℕ, _≤_}
 use mathlib.Core.Path.{_≡_, refl, sym, ap, subst, _∙_}
-use mathlib.Core.Bool.{Bool, true, not, false≢true}
+use mathlib.Core.Bool.{Bool, true, false, not, _||_, false≢true}
 use mathlib.Core.Option.{Option, none, some}
 use mathlib.Core.List.{List, []}
 use native.Mathlib.Omega.{arith}
@@ -13,17 +13,15 @@ use Rattle.base.proofs.Bools.{not-false}
 use Rattle.base.proofs.Sames.{same-eq}
 use Rattle.base.proofs.Parts.{length-part}
 use Rattle.geometry.specs.declared.medium.Medium.{Medium}
-use Rattle.geometry.specs.declared.config.Setting.{Setting}
-use Rattle.geometry.specs.declared.config.Setting.the-variants.{Valid, Invalid}
 use Rattle.geometry.specs.Medium.{mediumOf}
-use Rattle.geometry.specs.Config.{settingOf, labelSetting, labelHolds}
+use Rattle.geometry.specs.Config.{labelSetting, labelHolds}
 use Rattle.geometry.proofs.Labels.{holds-none, holds-same}
 use Rattle.model.specs.declared.block.Block.{Block}
 use Rattle.model.specs.declared.table.FreeCommand.the-variants.{RequestSense, WriteBuffer, ReadBuffer, Initialize}
 use Rattle.model.specs.declared.record.Drive.{Drive}
-use Rattle.model.specs.Record.{effect}
+use Rattle.model.specs.Record.{effect, failed, good}
 use Rattle.model.specs.Commands.{initialized, initializedBy, initialize, doFree}
-use Rattle.model.specs.Machine.{Disk, Machine, withBuffer, inForce, well, isStored, initializeBy, freely}
+use Rattle.model.specs.Machine.{Disk, Machine, withBuffer, withDisk, inForce, well, failing, isStored, initializeBy, freely}
 use Rattle.model.specs.Claim.{replyOf}
 use Rattle.model.proofs.claim.Agrees.{Stored, nothing, something, Drives, InStep, Follows}
 use Rattle.model.proofs.claim.Ends.{front, done-nothing, done-buffer, done-drive, well-follows, fault-follows}
@@ -42,15 +40,14 @@ unfolding isStored
 is-stored none config e = absurd (false≢true e)
 is-stored (some before) config e = ap {B = Option (List ℕ)} some (sym (same-eq before config e))
 
-drive-initialized : (medium : Medium) (config : List ℕ) (pending : Bool) (entry : Drive) (image : List ℕ) (u : Disk) → Drives medium entry image u
-    → pending ≡ not (isStored (u .stored) config)
-    → Drives medium (initialized config pending entry) image (inForce (some config) (not (isStored (u .stored) config)) u)
+drive-initialized : (medium : Medium) (config : List ℕ) (held : Bool) (entry : Drive) (image : List ℕ) (u : Disk) → Drives medium entry image u
+    → held ≡ isStored (u .stored) config → Drives medium (initialized config (not held) entry) image (inForce (some config) (not held) u)
 unfolding initialized inForce pick
-drive-initialized medium config pending entry image u drive same = record {
+drive-initialized medium config held entry image u drive same = record {
   len = drive .len;
   force = refl;
-  pending = sym same;
-  current = λ e. is-stored (u .stored) config (not-false _ e);
+  pending = refl;
+  current = λ e. is-stored (u .stored) config (sym same ∙ not-false _ e);
   stored = stored-forced medium u image (some config) _ (drive .stored);
 }
 
@@ -77,21 +74,28 @@ module _ (b : Block) (given area : List ℕ) (entry : Drive) (buffer image : Lis
       well-follows b area image m entry (take 512 given) image (withBuffer (take 512 given) m)
       (done-buffer _ entry buffer image m alike (take 512 given) (take 512 given) refl (length-part 0 512 given (omega arith))) 0 []
 
-  initialized-follows : (s : Setting) (config : List ℕ)
-      → Follows (b .drive) area image m (effect (initializedBy s b config entry image) buffer [] image) (initializeBy s b config m (m .disks (b .drive)))
-  unfolding initializedBy initializeBy
-  initialized-follows Invalid config = fault-follows b area image m entry buffer alike 0x22 (b .address)
-  initialized-follows (Valid p) config =
-      let before = alike .drive in
-      well-follows b area image m _ buffer image _
-      (done-drive _ entry buffer image m alike _ image _
-      (drive-initialized _ config _ entry image (m .disks (b .drive)) before
-      (ap not (holds-stored _ (m .disks (b .drive)) image config (before .stored)))) refl) 0 []
+  initialized-follows : (held fits : Bool) (config : List ℕ) → held ≡ isStored (m .disks (b .drive) .stored) config
+      → Follows (b .drive) area image m (effect (initializedBy held fits b config entry) buffer [] image)
+      (initializeBy held fits b config m (m .disks (b .drive)))
+  unfolding initializedBy initializeBy pick
+  initialized-follows held fits config same = by (held || fits)
+    where
+      by : (taken : Bool)
+          → Follows (b .drive) area image m
+          (effect
+          (pick taken (good (b .drive) 0 0 (initialized config (not held) entry)) (failed (b .drive) (b .drive) 0x22 (b .address) 0 0 entry)) buffer
+          [] image)
+          (pick taken (well b 0 [] (withDisk (b .drive) (inForce (some config) (not held) (m .disks (b .drive))) m))
+          (failing b 0x22 (b .address) 0 [] m))
+      by true =
+          well-follows b area image m _ buffer image _
+          (done-drive _ entry buffer image m alike _ image _
+          (drive-initialized _ config held entry image (m .disks (b .drive)) (alike .drive) same) refl) 0 []
+      by false = fault-follows b area image m entry buffer alike 0x22 (b .address)
 
   pub initialize-follows : Follows (b .drive) area image m (doFree b given entry buffer image Initialize) (freely b given m (m .disks (b .drive)) Initialize)
   unfolding doFree initialize part freely
   initialize-follows =
-      subst
-      (λ (n : ℕ). Follows (b .drive) area image m (doFree b given entry buffer image Initialize)
-      (initializeBy (settingOf (mediumOf (b .drive)) (take 10 given) n) b (take 10 given) m (m .disks (b .drive))))
-      (sym (alike .drive .len)) (initialized-follows (settingOf (mediumOf (b .drive)) (take 10 given) (length image)) (take 10 given))
+      let u = m .disks (b .drive) in
+      let held = holds-stored (mediumOf (b .drive)) u image (take 10 given) (alike .drive .stored) in
+      rw (← held, ← alike .drive .len) (initialized-follows _ _ (take 10 given) held)

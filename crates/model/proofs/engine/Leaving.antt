@@ -271,18 +271,26 @@ module _ (b : Block) (given : List ℕ) (entry : Drive) (buffer image : List ℕ
       record { number = refl; bytes = refl; makes = coded code at some; fills = fault-fills command; hands = fault-hands command; writes = untouched }
 
   -- ---- Free
-  configured : (s : Setting) → LeavesAs (Free Initialize) (effect (initializedBy s b (part 0 10 given) entry image) buffer [] image)
-  unfolding initializedBy good senseOf addressed pick sparesBuffer isQuiet
-  configured Invalid = faulty (Free Initialize) 0x22 (b .address) (omega arith)
-  configured (Valid p) =
-      record { number = refl; bytes = refl; makes = initial; fills = as-was refl; hands = nothing refl; writes = untouched }
+  configured : (taken : Bool)
+      → LeavesAs (Free Initialize)
+      (effect
+      (pick taken
+      (good (b .drive) 0 0 (initialized (part 0 10 given) (not (labelHolds (mediumOf (b .drive)) image (part 0 10 given))) entry))
+      (failed (b .drive) (b .drive) 0x22 (b .address) 0 0 entry)) buffer [] image)
+  unfolding good senseOf addressed pick sparesBuffer isQuiet
+  configured true = record { number = refl; bytes = refl; makes = initial; fills = as-was refl; hands = nothing refl; writes = untouched }
+  configured false = faulty (Free Initialize) 0x22 (b .address) (omega arith)
+
+  initialize-ends : LeavesAs (Free Initialize) (doFree b given entry buffer image Initialize)
+  unfolding doFree initialize initializedBy
+  initialize-ends = configured _
 
   free-ends : (command : FreeCommand) → LeavesAs (Free command) (doFree b given entry buffer image command)
-  unfolding doFree initialize good senseOf addressed pick isPlain sparesBuffer isQuiet
+  unfolding doFree good senseOf addressed pick isPlain sparesBuffer isQuiet
   free-ends RequestSense = record { number = refl; bytes = refl; makes = kept; fills = as-was refl; hands = own-sense; writes = untouched }
   free-ends WriteBuffer = record { number = refl; bytes = refl; makes = cleared refl; fills = taken; hands = nothing refl; writes = untouched }
   free-ends ReadBuffer = record { number = refl; bytes = refl; makes = cleared refl; fills = as-was refl; hands = own-buffer; writes = untouched }
-  free-ends Initialize = configured _
+  free-ends Initialize = initialize-ends
 
   -- ---- On the disk
   arm-ends : (command : ArmCommand) → LeavesAs (OnDisk (ArmWork command)) (effect (doArm b entry command) buffer [] image)

@@ -9,6 +9,7 @@ use lib.Seq.{getD-set-same}
 use lib.ListN.{length, getD, set, List·getD-eq-default, length-set}
 use lib.Dec.{eqb}
 use borrow.Author.Tests.{eqb-true, eqb-false}
+use Rattle.base.specs.Pick.{pick}
 use Rattle.base.specs.Part.{part}
 use Rattle.geometry.specs.declared.params.Params.{Params}
 use Rattle.geometry.specs.declared.config.Setting.{Setting}
@@ -105,10 +106,11 @@ module _ (b : Block) (given : List ℕ) (area : ℕ) (entry : Drive) (buffer ima
   abbrev Kept : Effect → Type 0
   Kept e = isGood (b .drive) (e .ending .answer) ≡ false → Keeps entry (e .ending .entry)
 
-  configured : (s : Setting) (config : List ℕ) → Kept (effect (initializedBy s b config entry image) buffer [] image)
-  unfolding initializedBy failed good sensed
-  configured Invalid config bad = record { config = refl; known = refl }
-  configured (Valid p) config bad = absurd (true≢false (sym (is-good (b .drive) 0 0) ∙ bad))
+  configured : (taken : Bool) (after : Drive)
+      → Kept (effect (pick taken (good (b .drive) 0 0 after) (failed (b .drive) (b .drive) 0x22 (b .address) 0 0 entry)) buffer [] image)
+  unfolding pick failed good sensed
+  configured true after bad = absurd (true≢false (sym (is-good (b .drive) 0 0) ∙ bad))
+  configured false after bad = record { config = refl; known = refl }
 
   failing : (v : Verdict) (after : Effect) → Kept after → Kept (unless v (b .drive) entry (λ e. effect e buffer [] image) after)
   unfolding unlessNamed refused failed sensed
@@ -117,7 +119,7 @@ module _ (b : Block) (given : List ℕ) (area : ℕ) (entry : Drive) (buffer ima
   failing Passed after h bad = h bad
 
   failed-initialize : rowFor (b .opcode) .command ≡ Free Initialize → Kept (obey b given area entry buffer image)
-  unfolding obey carryOut doFree initialize
+  unfolding obey carryOut doFree initialize initializedBy
   failed-initialize is = failing _ _ (rw is (configured _ _))
 
   -- of every other command

@@ -4,6 +4,7 @@ use std::fmt;
 use std::mem::replace;
 
 use super::{fills_buffer, Excluded, Pair, Rule, COPY};
+use crate::bounds::Met;
 use crate::engine::{Call, Step};
 use crate::paper::Kind;
 use crate::plain::Answer;
@@ -70,6 +71,7 @@ fn events() -> Vec<Event> {
         &[0x04, 0x06, 0x0E].map(Event::BitFive),
         &[Event::Kept],
         &[Event::Settled, Event::Pending, Event::Number(2), Event::Number(3)],
+        &[Met::Refused, Met::Equal, Met::Settled, Met::Written].map(Event::Bound),
         &CODES.map(Event::Code),
     ]
     .concat()
