@@ -24,8 +24,8 @@ isIn range value = leb (range .least) value && leb value (range .most)
 
 -- Hard disks: C is 1 to 1,024 and H 1 to 7; byte 3 has a step option of 0 to 4 in its high nibble, bits 3-1 zero and bit 0
 -- either; byte 4 is 1 or 2; byte 9 is 0 to 11. Floppies: byte 0 is zero and C 1 to 255, H is 1 or 2; byte 3 has any high nibble
--- and low nibble 1; byte 4 is zero; byte 9 is any. Bytes 5 to 8 are any on both (of 7 and 8 Initialize
--- asks more: `precompensationIn`).
+-- and low nibble 1; byte 4 is zero; byte 9 is any. Bytes 5 to 8 are any on both; of 7 and 8 Initialize asks more (`precompensationIn`,
+-- request E8).
 unfoldable pub rangesOf : Medium → Ranges
 rangesOf HardDisk = record {
   cylinders = between 1 1024;

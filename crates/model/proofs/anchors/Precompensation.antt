@@ -4,7 +4,7 @@ use mathlib.Core.Path.{_≡_, refl}
 use mathlib.Core.Bool.{Bool, true, false}
 use mathlib.Core.Option.{Option, none, some}
 use mathlib.Core.List.{List, [], _∷_, _++_}
-use lib.ListN.{set, replicate}
+use lib.ListN.{set, drop, replicate}
 use Rattle.base.specs.Pick.{pick}
 use Rattle.base.specs.Part.{part, splice}
 use Rattle.base.specs.First.{firstFrom, firstBelow, isSome, someBelow}
@@ -50,10 +50,12 @@ zeros = replicate 6 0
 entry : (config : List ℕ) → (code drive : ℕ) → (pending : Bool) → Drive
 entry bytes code drive pending = record { sense = code ∷ 32 * drive ∷ 0 ∷ 0 ∷ []; config = bytes; known = true; pending = pending }
 
--- drive d after a Reset with one label and an Initialize with these bytes and another
+-- a Reset with one label, then an Initialize of drive d with these bytes and another, and what it leaves of the drive
+sends : (d : ℕ) → (first rest given : List ℕ) → Result
+sends d first rest given = execute (fresh (images first)) (0x11 ∷ 32 * d ∷ 0 ∷ 0 ∷ 0 ∷ 0 ∷ []) given (0xAB ∷ []) (images rest)
+
 between : (d : ℕ) → (first rest given : List ℕ) → Drive
-between d first rest given =
-    driveAt (execute (fresh (images first)) (0x11 ∷ 32 * d ∷ 0 ∷ 0 ∷ 0 ∷ 0 ∷ []) given [] (images rest) .outcome .controller) d
+between d first rest given = driveAt (sends d first rest given .outcome .controller) d
 
 leaves : (d : ℕ) → (rest given : List ℕ) → Drive
 leaves d rest = between d rest rest
@@ -62,7 +64,7 @@ bound :
     -- the label loads at Reset, and its own bytes are taken, not pending
     (driveAt (fresh (images zeros)) 0 ≡ entry mistyped 0 0 false)
     × (leaves 0 zeros mistyped ≡ entry mistyped 0 0 false)
-    -- with one other byte changed, in the step rate, in bytes 5-6 or in 7-8 themselves, they are not
+    -- with one other byte changed, byte 3, one of 5-6 or one of 7-8 themselves, they are not
     × (leaves 0 zeros (set mistyped 3 1) ≡ entry mistyped 0x22 0 false)
     × (leaves 0 zeros (set mistyped 6 0) ≡ entry mistyped 0x22 0 false)
     × (leaves 0 zeros (config 0x9C 0x41) ≡ entry mistyped 0x22 0 false)
@@ -77,8 +79,28 @@ bound :
     × (leaves 0 zeros (config 1 0) ≡ entry mistyped 0x22 0 false)
     -- a floppy's are free
     × (leaves 2 zeros floppy ≡ entry floppy 0 2 true)
-unfolding config mistyped floppy images zeros entry between leaves execute onDrive left obey unlessNamed viewOf imageOf carryOut doFree initialize initializedBy initialized labelHolds isValid labelSetting mediumOf isFloppy settingOf settingBy fieldsIn isIn rangesOf sizeFor fittedTo part sameBytes pick blockOf addressed senseOf blankDrive driveAt sensed failed good loadedBy loaded fresh rowFor checkNumber isAmong judge judged inOrder hitsOf isUnknown blockWrong presentWith bytesOf isWhole blockLength isCopy
+unfolding config mistyped floppy images zeros entry sends between leaves execute onDrive left obey unlessNamed viewOf imageOf carryOut doFree
+    initialize initializedBy initialized labelHolds isValid labelSetting mediumOf isFloppy settingOf settingBy fieldsIn isIn rangesOf sizeFor fittedTo
+    part sameBytes pick blockOf addressed senseOf blankDrive driveAt sensed failed good loadedBy loaded fresh rowFor checkNumber isAmong judge judged
+    inOrder hitsOf isUnknown blockWrong presentWith bytesOf isWhole blockLength isCopy
 bound = (refl, refl, refl, refl, refl, refl, refl, refl, refl, refl, refl, refl)
+
+-- what else is left
+rest-left :
+    -- 22h by the bound: the answer, the data area, the buffer, the images, the other drives
+    (sends 0 zeros zeros (config 0 2) .outcome .answer ≡ record { number = 0; status = 2; message = 0; sectors = 0; bytes = 0 })
+    × (sends 0 zeros zeros (config 0 2) .area ≡ 0xAB ∷ [])
+    × (sends 0 zeros zeros (config 0 2) .outcome .controller .buffer ≡ replicate 512 0)
+    × (sends 0 zeros zeros (config 0 2) .images ≡ images zeros)
+    × (drop 1 (sends 0 zeros zeros (config 0 2) .outcome .controller .drives) ≡ blankDrive ∷ blankDrive ∷ blankDrive ∷ [])
+    -- and of the label's own bytes
+    × (sends 0 zeros zeros mistyped .outcome .answer ≡ record { number = 0; status = 0; message = 0; sectors = 0; bytes = 0 })
+    × (sends 0 zeros zeros mistyped .images ≡ images zeros)
+unfolding config mistyped images zeros sends execute onDrive left obey unlessNamed viewOf imageOf carryOut doFree initialize initializedBy initialized
+    labelHolds isValid labelSetting mediumOf isFloppy settingOf settingBy fieldsIn isIn rangesOf sizeFor fittedTo part sameBytes pick blockOf
+    addressed senseOf blankDrive driveAt sensed failed good loadedBy loaded fresh rowFor checkNumber isAmong judge judged inOrder hitsOf isUnknown
+    blockWrong presentWith bytesOf isWhole blockLength isCopy splice
+rest-left = (refl, refl, refl, refl, refl, refl, refl)
 
 -- ---- Format Drive writes such a label again: it is in force from the label's Reset on, and the image lent has none
 formats : Result
@@ -88,7 +110,11 @@ formats =
 written-again :
     (formats .outcome .answer .status ≡ 0)
     × (part 0 16 (imageOf 0 (formats .images)) ≡ mistyped ++ zeros)
-unfolding config mistyped images zeros formats execute onDrive left obey unlessNamed viewOf imageOf carryOut doDisk doTrack asEffect formatDrive driveFormatted isValid labelSetting mediumOf settingIn settingOf settingBy fieldsIn isIn rangesOf sizeFor fittedTo part splice sameBytes pick blockOf driveAt good loadedBy loaded fresh rowFor checkNumber isAmong judge judged inOrder hitsOf isUnknown blockWrong presentWith bytesOf isWhole blockLength isCopy pairSplit splits stateOf stateBy firstId idIn trackBytes slotId someBelow isSome firstBelow firstFrom reachOf withParams controlWrong interleaveWrong pastEnd
+unfolding config mistyped images zeros formats execute onDrive left obey unlessNamed viewOf imageOf carryOut doDisk doTrack asEffect formatDrive
+    driveFormatted isValid labelSetting mediumOf settingIn settingOf settingBy fieldsIn isIn rangesOf sizeFor fittedTo part splice sameBytes pick
+    blockOf driveAt good loadedBy loaded fresh rowFor checkNumber isAmong judge judged inOrder hitsOf isUnknown blockWrong presentWith bytesOf isWhole
+    blockLength isCopy pairSplit splits stateOf stateBy firstId idIn trackBytes slotId someBelow isSome firstBelow firstFrom reachOf withParams
+    controlWrong interleaveWrong pastEnd
 written-again = (refl, refl)
 
 -- ---- The plain machine, with a mistyped configuration stored on every drive: 258 cylinders, two heads, 17 sectors, so that the count is no
@@ -140,8 +166,9 @@ alike :
     × (gives 2 floppy ≡ (64, some floppy, true))
     × (remade .0 .status ≡ 0)
     × (remade .1 .disks 0 .stored ≡ some stored)
-unfolding large stored remade floppy machine stands starts gives step restored inForce ordered seen settingWith providingOn carried freely initializeBy isStored
-    withDisk withSense changed well failingOn isValid mediumOf isFloppy settingOf settingBy fieldsIn isIn rangesOf sizeFor fittedTo sameBytes pick blockOf
-    rowFor checkNumber isAmong judge judged inOrder hitsOf isUnknown blockWrong presentWith bytesOf isWhole blockLength isCopy controlWrong withParams
-    interleaveWrong pastEnd reachOf withParameters onTracks plain.formatDrive someParted partedBy reformatted
+unfolding large stored remade floppy machine stands starts gives step restored inForce ordered seen settingWith providingOn carried freely
+    initializeBy isStored withDisk withSense changed well failingOn isValid mediumOf isFloppy settingOf settingBy fieldsIn isIn rangesOf sizeFor
+    fittedTo sameBytes pick blockOf rowFor checkNumber isAmong judge judged inOrder hitsOf isUnknown blockWrong presentWith bytesOf isWhole
+    blockLength isCopy controlWrong withParams interleaveWrong pastEnd reachOf withParameters onTracks plain.formatDrive someParted partedBy
+    reformatted
 alike = (refl, refl, refl, refl, refl, refl, refl, refl, refl, refl)
