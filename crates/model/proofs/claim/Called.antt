@@ -1,12 +1,10 @@
 -- One call: it answers as the machine does, and engine and machine agree after it.
 use Prim.Native.Nat.{ℕ, _<_}
 use mathlib.Core.Path.{_≡_, refl, sym, _∙_}
-use mathlib.Core.Bool.{Bool, true, false}
 use mathlib.Core.List.{List}
 use native.Mathlib.Decide.{ℕ-discrete}
 use native.Mathlib.Omega.{arith}
 use lib.ListN.{length}
-use Rattle.base.specs.Pick.{pick}
 use Rattle.model.specs.declared.record.Controller.{Controller}
 use Rattle.model.specs.Block.{blockOf, isWhole, isCopy}
 use Rattle.model.specs.Feed.{Reply, command, bare}
@@ -17,16 +15,10 @@ use Rattle.model.specs.Claim.{System, Call, Reset, Command, fed, replyOf
 use Rattle.model.proofs.engine.Leaving.{unmoved}
 use Rattle.model.proofs.engine.Assembled.{drive-below, drives-length, own-entry, other-entry, own-image, other-image}
 use Rattle.model.proofs.claim.Agrees.{InStep, Agrees, Follows, Answered}
+use Rattle.model.proofs.claim.Ends.{pick-both-by}
 use Rattle.model.proofs.claim.Obeyed.{obey-follows}
 use Rattle.model.proofs.claim.Copied.{copy-executes}
 use Rattle.model.proofs.claim.Restarted.{agree-reset}
-
--- one test for both
-module _ {ℓ} {A B : Type ℓ} (P : A → B → Type 0) where
-  pick-both-by : (b : Bool) {x y : A} {u v : B} → (b ≡ true → P x u) → (b ≡ false → P y v) → P (pick b x y) (pick b u v)
-  unfolding pick
-  pick-both-by true hx hy = hx refl
-  pick-both-by false hx hy = hy refl
 
 module _ (c : Controller) (area : List ℕ) (images : List (List ℕ)) (m : Machine) (agree : Agrees c (λ d. imageOf d images) m) where
   reply-left : (d : ℕ) (e : Effect) (x : Reply × Machine) → Follows d area (imageOf d images) m e x

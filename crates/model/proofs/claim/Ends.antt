@@ -1,10 +1,12 @@
 -- How a command ends: engine and machine change sense, buffer and drive alike, and reply alike.
 use Prim.Native.Nat.{ℕ}
 use mathlib.Core.Path.{_≡_, refl}
+use mathlib.Core.Bool.{Bool, true, false}
 use mathlib.Core.List.{List, []}
 use lib.ListN.{length, take}
 use lib.Seq.{take-append-seam}
 use borrow.Author.Tests.{eq-eqb, ne-eqb}
+use Rattle.base.specs.Pick.{pick}
 use Rattle.base.specs.Part.{splice}
 use Rattle.base.proofs.Decide.{pick-true, pick-false, pick-both}
 use Rattle.geometry.specs.declared.params.Lba.{Lba}
@@ -22,6 +24,13 @@ use Rattle.model.specs.Feed.{Reply, bare}
 use Rattle.model.specs.Machine.{Disk, Machine, changed, withSense, withBuffer, withDisk, failing, well, providing, failingOn, providingOn}
 use Rattle.model.specs.Claim.{replyOf}
 use Rattle.model.proofs.claim.Agrees.{Drives, InStep, Follows}
+
+-- ---- one test for both
+module _ {ℓ} {A B : Type ℓ} (P : A → B → Type 0) where
+  pub pick-both-by : (b : Bool) {x y : A} {u v : B} → (b ≡ true → P x u) → (b ≡ false → P y v) → P (pick b x y) (pick b u v)
+  unfolding pick
+  pick-both-by true hx hy = hx refl
+  pick-both-by false hx hy = hy refl
 
 -- ---- one place changed
 module _ {ℓ} {A : Type ℓ} (f : ℕ → A) (i : ℕ) (x : A) where

@@ -1,7 +1,7 @@
 -- The commands that need no parameters: Request Sense, the buffer's, Initialize.
 use Prim.Native.Nat.{ℕ, _≤_}
 use mathlib.Core.Path.{_≡_, refl, sym, ap, subst, _∙_}
-use mathlib.Core.Bool.{Bool, true, false, not, _||_, false≢true}
+use mathlib.Core.Bool.{Bool, true, not, _||_, false≢true}
 use mathlib.Core.Option.{Option, none, some}
 use mathlib.Core.List.{List, []}
 use native.Mathlib.Omega.{arith}
@@ -19,12 +19,14 @@ use Rattle.geometry.proofs.Labels.{holds-none, holds-same}
 use Rattle.model.specs.declared.block.Block.{Block}
 use Rattle.model.specs.declared.table.FreeCommand.the-variants.{RequestSense, WriteBuffer, ReadBuffer, Initialize}
 use Rattle.model.specs.declared.record.Drive.{Drive}
-use Rattle.model.specs.Record.{effect, failed, good}
+use Rattle.model.specs.declared.record.Ending.{Ending}
+use Rattle.model.specs.Feed.{Reply}
+use Rattle.model.specs.Record.{effect}
 use Rattle.model.specs.Commands.{initialized, initializedBy, initialize, doFree}
-use Rattle.model.specs.Machine.{Disk, Machine, withBuffer, withDisk, inForce, well, failing, isStored, initializeBy, freely}
+use Rattle.model.specs.Machine.{Disk, Machine, withBuffer, inForce, well, isStored, initializeBy, freely}
 use Rattle.model.specs.Claim.{replyOf}
 use Rattle.model.proofs.claim.Agrees.{Stored, nothing, something, Drives, InStep, Follows}
-use Rattle.model.proofs.claim.Ends.{front, done-nothing, done-buffer, done-drive, well-follows, fault-follows}
+use Rattle.model.proofs.claim.Ends.{pick-both-by, front, done-nothing, done-buffer, done-drive, well-follows, fault-follows}
 use Rattle.model.proofs.claim.Current.{stored-forced}
 
 -- a valid label holds what is stored, and nothing else
@@ -77,21 +79,14 @@ module _ (b : Block) (given area : List ℕ) (entry : Drive) (buffer image : Lis
   initialized-follows : (held fits : Bool) (config : List ℕ) → held ≡ isStored (m .disks (b .drive) .stored) config
       → Follows (b .drive) area image m (effect (initializedBy held fits b config entry) buffer [] image)
       (initializeBy held fits b config m (m .disks (b .drive)))
-  unfolding initializedBy initializeBy pick
-  initialized-follows held fits config same = by (held || fits)
-    where
-      by : (taken : Bool)
-          → Follows (b .drive) area image m
-          (effect
-          (pick taken (good (b .drive) 0 0 (initialized config (not held) entry)) (failed (b .drive) (b .drive) 0x22 (b .address) 0 0 entry)) buffer
-          [] image)
-          (pick taken (well b 0 [] (withDisk (b .drive) (inForce (some config) (not held) (m .disks (b .drive))) m))
-          (failing b 0x22 (b .address) 0 [] m))
-      by true =
-          well-follows b area image m _ buffer image _
-          (done-drive _ entry buffer image m alike _ image _
-          (drive-initialized _ config held entry image (m .disks (b .drive)) (alike .drive) same) refl) 0 []
-      by false = fault-follows b area image m entry buffer alike 0x22 (b .address)
+  unfolding initializedBy initializeBy
+  initialized-follows held fits config same =
+      pick-both-by (λ (ending : Ending) (x : Reply × Machine). Follows (b .drive) area image m (effect ending buffer [] image) x) (held || fits)
+      (λ taken.
+      well-follows b area image m _ buffer image _
+      (done-drive _ entry buffer image m alike _ image _
+      (drive-initialized _ config held entry image (m .disks (b .drive)) (alike .drive) same) refl) 0 [])
+      (λ refused. fault-follows b area image m entry buffer alike 0x22 (b .address))
 
   pub initialize-follows : Follows (b .drive) area image m (doFree b given entry buffer image Initialize) (freely b given m (m .disks (b .drive)) Initialize)
   unfolding doFree initialize part freely

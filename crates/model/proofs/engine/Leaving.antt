@@ -9,6 +9,7 @@ use lib.Seq.{set-getD}
 use lib.Dec.{ltb, eqb}
 use Rattle.base.specs.Pick.{pick}
 use Rattle.base.specs.Part.{part, splice}
+use Rattle.base.proofs.Decide.{pick-both}
 use Rattle.geometry.specs.declared.params.Lba.{Lba}
 use Rattle.geometry.specs.declared.params.Params.{Params}
 use Rattle.geometry.specs.declared.config.Setting.{Setting}
@@ -271,19 +272,18 @@ module _ (b : Block) (given : List ℕ) (entry : Drive) (buffer image : List ℕ
       record { number = refl; bytes = refl; makes = coded code at some; fills = fault-fills command; hands = fault-hands command; writes = untouched }
 
   -- ---- Free
-  configured : (taken : Bool)
-      → LeavesAs (Free Initialize)
-      (effect
-      (pick taken
-      (good (b .drive) 0 0 (initialized (part 0 10 given) (not (labelHolds (mediumOf (b .drive)) image (part 0 10 given))) entry))
-      (failed (b .drive) (b .drive) 0x22 (b .address) 0 0 entry)) buffer [] image)
-  unfolding good senseOf addressed pick sparesBuffer isQuiet
-  configured true = record { number = refl; bytes = refl; makes = initial; fills = as-was refl; hands = nothing refl; writes = untouched }
-  configured false = faulty (Free Initialize) 0x22 (b .address) (omega arith)
+  initial-makes : Makes b given entry image (Free Initialize) (32 * b .drive)
+      (sensed (senseOf 0 (b .drive) (record { 0 = 0 }))
+      (initialized (part 0 10 given) (not (labelHolds (mediumOf (b .drive)) image (part 0 10 given))) entry))
+  unfolding senseOf addressed pick
+  initial-makes = initial
 
   initialize-ends : LeavesAs (Free Initialize) (doFree b given entry buffer image Initialize)
-  unfolding doFree initialize initializedBy
-  initialize-ends = configured _
+  unfolding doFree initialize initializedBy good sparesBuffer isQuiet
+  initialize-ends =
+      pick-both (λ (x : Ending). LeavesAs (Free Initialize) (effect x buffer [] image)) _ _ _
+      (record { number = refl; bytes = refl; makes = initial-makes; fills = as-was refl; hands = nothing refl; writes = untouched })
+      (faulty (Free Initialize) 0x22 (b .address) (omega arith))
 
   free-ends : (command : FreeCommand) → LeavesAs (Free command) (doFree b given entry buffer image command)
   unfolding doFree good senseOf addressed pick isPlain sparesBuffer isQuiet

@@ -9,8 +9,8 @@ use lib.Seq.{getD-set-same}
 use lib.ListN.{length, getD, set, List·getD-eq-default, length-set}
 use lib.Dec.{eqb}
 use borrow.Author.Tests.{eqb-true, eqb-false}
-use Rattle.base.specs.Pick.{pick}
 use Rattle.base.specs.Part.{part}
+use Rattle.base.proofs.Decide.{pick-both}
 use Rattle.geometry.specs.declared.params.Params.{Params}
 use Rattle.geometry.specs.declared.config.Setting.{Setting}
 use Rattle.geometry.specs.declared.config.Setting.the-variants.{Valid, Invalid}
@@ -22,6 +22,7 @@ use Rattle.model.specs.declared.table.DiskCommand.the-variants.{ArmWork,
 use Rattle.model.specs.declared.table.TrackCommand.the-variants.{FormatDrive, CheckTrack, FormatTrack, FormatBadTrack, AssignAlternate}
 use Rattle.model.specs.declared.record.Drive.{Drive}
 use Rattle.model.specs.declared.record.Controller.{Controller}
+use Rattle.model.specs.declared.record.Ending.{Ending}
 use Rattle.model.specs.declared.verdict.Verdict.{Verdict}
 use Rattle.model.specs.declared.verdict.Verdict.the-variants.{Refused, Faulty, Passed}
 use Rattle.model.specs.Block.{blockOf}
@@ -106,11 +107,11 @@ module _ (b : Block) (given : List ℕ) (area : ℕ) (entry : Drive) (buffer ima
   abbrev Kept : Effect → Type 0
   Kept e = isGood (b .drive) (e .ending .answer) ≡ false → Keeps entry (e .ending .entry)
 
-  configured : (taken : Bool) (after : Drive)
-      → Kept (effect (pick taken (good (b .drive) 0 0 after) (failed (b .drive) (b .drive) 0x22 (b .address) 0 0 entry)) buffer [] image)
-  unfolding pick failed good sensed
-  configured true after bad = absurd (true≢false (sym (is-good (b .drive) 0 0) ∙ bad))
-  configured false after bad = record { config = refl; known = refl }
+  configured : (held fits : Bool) (config : List ℕ) → Kept (effect (initializedBy held fits b config entry) buffer [] image)
+  unfolding initializedBy failed good sensed
+  configured held fits config =
+      pick-both (λ (x : Ending). Kept (effect x buffer [] image)) _ _ _ (λ bad. absurd (true≢false (sym (is-good (b .drive) 0 0) ∙ bad)))
+      (λ bad. record { config = refl; known = refl })
 
   failing : (v : Verdict) (after : Effect) → Kept after → Kept (unless v (b .drive) entry (λ e. effect e buffer [] image) after)
   unfolding unlessNamed refused failed sensed
@@ -119,8 +120,8 @@ module _ (b : Block) (given : List ℕ) (area : ℕ) (entry : Drive) (buffer ima
   failing Passed after h bad = h bad
 
   failed-initialize : rowFor (b .opcode) .command ≡ Free Initialize → Kept (obey b given area entry buffer image)
-  unfolding obey carryOut doFree initialize initializedBy
-  failed-initialize is = failing _ _ (rw is (configured _ _))
+  unfolding obey carryOut doFree initialize
+  failed-initialize is = failing _ _ (rw is (configured _ _ _))
 
   -- of every other command
   by-makes : {command : Command} {status : ℕ} {after : Drive} → (command ≡ Free Initialize → ⊥) → Makes b given entry image command status after → Keeps entry after
