@@ -2,7 +2,7 @@
 use geometry::params::{Lba, Params};
 
 // From address a of drive `source`, with parameters p, to address b of drive `target`, with parameters q.
-#[derive(Drop)]
+#[derive(Clone, Copy)]
 pub struct Route {
     pub source: u8,
     pub target: u8,
@@ -13,7 +13,7 @@ pub struct Route {
 }
 
 // What ended a copy: nothing, a source or a destination sector that is not found, or a last sector completed with zeros.
-#[derive(Drop)]
+#[derive(Clone, Copy)]
 pub enum End {
     Going,
     SourceFault(u8),
@@ -22,7 +22,7 @@ pub enum End {
 }
 
 // Source sectors read, destination sectors written, and what ended it.
-#[derive(Drop)]
+#[derive(Clone, Copy)]
 pub struct Copied {
     pub read: usize,
     pub done: usize,

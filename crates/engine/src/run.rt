@@ -44,7 +44,7 @@ fn on_images(
 }
 
 // What a call leaves beside the buffer: the drives' entries, and the answer.
-#[derive(Drop)]
+#[derive(Clone, Copy)]
 pub struct Ran {
     pub drives: [Drive; 4],
     pub answer: Answer,

@@ -15,14 +15,14 @@ const STDIN: i32 = 0;
 const STDOUT: i32 = 1;
 
 // Where the program stands, and whether it goes on: no read and no write has failed.
-#[derive(Drop)]
+#[derive(Clone, Copy)]
 pub struct Went {
     pub session: Session,
     pub going: bool,
 }
 
 // What a read has brought: so many characters, none at the input's end; or it has failed, and brought none.
-#[derive(Drop)]
+#[derive(Clone, Copy)]
 pub struct Got {
     pub count: usize,
     pub failed: bool,

@@ -9,14 +9,14 @@ use crate::params::Params;
 use base::bytes::{copy_bytes, same_bytes, two_bytes};
 
 // What a configuration gives with an image of some length.
-#[derive(Drop)]
+#[derive(Clone, Copy)]
 pub enum Setting {
     Valid(Params),
     Invalid,
 }
 
 // Data bytes a sector and sectors a track.
-#[derive(Drop)]
+#[derive(Clone, Copy)]
 pub struct Size {
     pub bytes: usize,
     pub sectors: usize,

@@ -2,21 +2,21 @@
 ghost use Rattle.std.specs.Prelude.{◌≡◌};
 ghost use Rattle.geometry.specs.Medium.{medium_of, is_floppy, is_in, ranges_of};
 
-#[derive(Drop)]
+#[derive(Clone, Copy)]
 pub enum Medium {
     HardDisk,
     Floppy,
 }
 
 // From the least to the most.
-#[derive(Drop)]
+#[derive(Clone, Copy)]
 pub struct Range {
     pub least: u32,
     pub most: u32,
 }
 
 // What the fields of a configuration may be.
-#[derive(Drop)]
+#[derive(Clone, Copy)]
 pub struct Ranges {
     // bytes 0 and 1
     pub cylinders: Range,

@@ -3,11 +3,11 @@ ghost use Rattle.std.specs.Prelude.{◌≡◌, ◌+◌, ◌*◌, ◌/◌, ◌%�
 ghost use Rattle.geometry.specs.Params.{Within, track_count, last_address, slot_size, track_size, image_length, track_start, track_of, sector_of, cylinder_of, head_of, lba_of, further, track, next_track};
 
 // A logical address.
-#[derive(Drop)]
+#[derive(Clone, Copy)]
 pub struct Lba(pub u32);
 
 // A track's number.
-#[derive(Drop)]
+#[derive(Clone, Copy)]
 pub struct Track(pub u32);
 
 impl Lba {
@@ -116,7 +116,7 @@ impl Track {
 }
 
 // C, H, n and D of document 01.
-#[derive(Drop)]
+#[derive(Clone, Copy)]
 pub struct Params {
     pub cylinders: u32,
     pub heads: u32,
@@ -125,7 +125,7 @@ pub struct Params {
 }
 
 // A track's place in the image: from start up to end.
-#[derive(Drop)]
+#[derive(Clone, Copy)]
 pub struct Stretch {
     pub start: usize,
     pub end: usize,

@@ -5,7 +5,7 @@ ghost use Rattle.hex.specs.Line.{started, spoilt_line, line_now, taken_in, accep
 use crate::digit::value_of;
 
 // What is read of a line so far.
-#[derive(Drop)]
+#[derive(Clone, Copy)]
 pub struct Line {
     // whole bytes
     pub count: usize,

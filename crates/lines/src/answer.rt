@@ -16,7 +16,7 @@ use model::record::{Answer, Controller};
 const LINE_FEED: u8 = 0x0A;
 
 // The controller after a line, and the length of the text that answers it.
-#[derive(Drop)]
+#[derive(Clone, Copy)]
 pub struct Told {
     pub controller: Controller,
     pub length: usize,

@@ -13,14 +13,14 @@ use model::record::Controller;
 const LINE_FEED: u8 = 0x0A;
 
 // The controller, and what is read of the line under way.
-#[derive(Drop)]
+#[derive(Clone, Copy)]
 pub struct Session {
     pub controller: Controller,
     pub line: Line,
 }
 
 // Where the program stands, how many characters of the input it has taken, and the length of the text that it says.
-#[derive(Drop)]
+#[derive(Clone, Copy)]
 pub struct Heard {
     pub session: Session,
     pub taken: usize,

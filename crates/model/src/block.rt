@@ -1,7 +1,7 @@
 // The fields of a command's bytes.
 use geometry::params::Lba;
 
-#[derive(Drop)]
+#[derive(Clone, Copy)]
 pub struct Block {
     pub opcode: u8,
     // bit 7 of byte 1
@@ -14,7 +14,7 @@ pub struct Block {
 }
 
 // Copy's source with the count and the control byte, and its destination.
-#[derive(Drop)]
+#[derive(Clone, Copy)]
 pub struct CopyBlock {
     pub from: Block,
     pub to: Block,

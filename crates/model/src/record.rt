@@ -1,6 +1,6 @@
 // The controller's record, and what a call answers.
 #[repr(C)]
-#[derive(Drop)]
+#[derive(Clone, Copy)]
 pub struct Drive {
     pub sense: [u8; 4],
     // in force where known
@@ -10,14 +10,14 @@ pub struct Drive {
 }
 
 #[repr(C)]
-#[derive(Drop)]
+#[derive(Clone, Copy)]
 pub struct Controller {
     pub buffer: [u8; 512],
     pub drives: [Drive; 4],
 }
 
 #[repr(C)]
-#[derive(Drop)]
+#[derive(Clone, Copy)]
 pub struct Answer {
     pub number: u8,
     pub status: u8,
@@ -29,13 +29,13 @@ pub struct Answer {
 }
 
 // What a command leaves of its drive's entry, and its answer.
-#[derive(Drop)]
+#[derive(Clone, Copy)]
 pub struct Ending {
     pub entry: Drive,
     pub answer: Answer,
 }
 
-#[derive(Drop)]
+#[derive(Clone, Copy)]
 pub struct Outcome {
     pub controller: Controller,
     pub answer: Answer,

@@ -1,5 +1,5 @@
 // The commands, by what they need: to carry one out is to match its group, then the command.
-#[derive(Drop)]
+#[derive(Clone, Copy)]
 pub enum Command {
     // no parameters
     Free(FreeCommand),
@@ -10,7 +10,7 @@ pub enum Command {
     Unknown,
 }
 
-#[derive(Drop)]
+#[derive(Clone, Copy)]
 pub enum FreeCommand {
     RequestSense,
     WriteBuffer,
@@ -18,21 +18,21 @@ pub enum FreeCommand {
     Initialize,
 }
 
-#[derive(Drop)]
+#[derive(Clone, Copy)]
 pub enum DiskCommand {
     ArmWork(ArmCommand),
     TrackWork(TrackCommand),
     SectorWork(SectorCommand),
 }
 
-#[derive(Drop)]
+#[derive(Clone, Copy)]
 pub enum ArmCommand {
     TestReady,
     Recalibrate,
     Seek,
 }
 
-#[derive(Drop)]
+#[derive(Clone, Copy)]
 pub enum TrackCommand {
     FormatDrive,
     CheckTrack,
@@ -41,14 +41,14 @@ pub enum TrackCommand {
     AssignAlternate,
 }
 
-#[derive(Drop)]
+#[derive(Clone, Copy)]
 pub enum SectorCommand {
     Read,
     Write,
 }
 
 // The kinds of data that a command takes or hands over.
-#[derive(Drop)]
+#[derive(Clone, Copy)]
 pub enum Data {
     Nothing,
     Sense,

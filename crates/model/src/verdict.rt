@@ -4,7 +4,7 @@ use geometry::medium::Medium;
 use geometry::params::Lba;
 
 // A drive as the checks see it.
-#[derive(Drop)]
+#[derive(Clone, Copy)]
 pub struct View {
     pub medium: Medium,
     // its image has at least 16 bytes
@@ -15,7 +15,7 @@ pub struct View {
 }
 
 // The checks that hit, in document 01's order.
-#[derive(Drop)]
+#[derive(Clone, Copy)]
 pub struct Hits {
     // 20h
     pub unknown: bool,
@@ -37,7 +37,7 @@ pub struct Hits {
     pub small: bool,
 }
 
-#[derive(Drop)]
+#[derive(Clone, Copy)]
 pub enum Verdict {
     // a refusal's number
     Refused(u8),
@@ -47,7 +47,7 @@ pub enum Verdict {
 }
 
 // What the checks of Copy say, and of which drive.
-#[derive(Drop)]
+#[derive(Clone, Copy)]
 pub struct Judgement {
     pub named: u8,
     pub verdict: Verdict,

@@ -19,7 +19,7 @@ const TURN: usize = 17 * 512;
 pub const SCRATCH: usize = TURN + 512;
 
 // Where a copy stands between two turns: `held` bytes wait at the scratch's front.
-#[derive(Drop)]
+#[derive(Clone, Copy)]
 pub struct Progress {
     pub read: usize,
     pub done: usize,

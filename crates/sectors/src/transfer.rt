@@ -9,7 +9,7 @@ use base::bytes::put_front;
 use geometry::params::{Lba, Params};
 
 // Sectors done, and the code of the one that failed or 0.
-#[derive(Drop)]
+#[derive(Clone, Copy)]
 pub struct Done {
     pub sectors: usize,
     pub code: u8,

@@ -36,7 +36,7 @@ const ON_DRIVE: u16 = PRESENT + PARAMETERS;
 
 const AT_ADDRESS: u16 = CONTROL + PRESENT + PARAMETERS + ADDRESS + SETTLED;
 
-#[derive(Drop)]
+#[derive(Clone, Copy)]
 pub struct Row {
     pub command: Command,
     pub checks: u16,

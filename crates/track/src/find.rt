@@ -9,14 +9,14 @@ use crate::id::{ID_MARK, Id, first_id, is_own};
 use geometry::params::{Params, Track};
 
 // The track where the search goes on, or an error's code.
-#[derive(Drop)]
+#[derive(Clone, Copy)]
 pub enum Where {
     On(Track),
     Off(u8),
 }
 
 // The track and the slot that a sector is in, or an error's code.
-#[derive(Drop)]
+#[derive(Clone, Copy)]
 pub enum Sector {
     Slot(Track, usize),
     Fault(u8),

@@ -11,7 +11,7 @@ use geometry::params::{Params, Track};
 pub const ID_MARK: u8 = 0xA1;
 
 // What the 8 ID bytes of a slot say.
-#[derive(Drop)]
+#[derive(Clone, Copy)]
 pub struct Id {
     pub mark: u8,
     pub cylinder: u16,

@@ -5,7 +5,7 @@ ghost use Rattle.track.specs.State.{flag_of, partner_of, is_bad, is_moved, is_ta
 use geometry::params::Track;
 
 // The state that a format gives a track.
-#[derive(Drop)]
+#[derive(Clone, Copy)]
 pub enum State {
     Sound,
     Bad,
