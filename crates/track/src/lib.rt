@@ -1,4 +1,5 @@
 // Tracks of an image: their IDs and states, pairs, and where their sectors are found.
+#![tactic(auto)]
 pub mod find;
 pub mod id;
 pub mod pair;

@@ -1,0 +1,28 @@
+use borrow.Author.Rules.{rules}
+use Rattle.base.proofs.Decide.{decide}
+use Rattle.track.specs.Pair.{state_by}
+use Rattle.track.proofs.pair.state_by.Goals as goal
+
+pub returns-then-id-ne-ID_MARK : goal.returns-then-id-ne-ID_MARK
+unfolding state_by
+returns-then-id-ne-ID_MARK c = search (rules, decide)
+
+pub returns-then-not-own : goal.returns-then-not-own
+unfolding state_by
+returns-then-not-own c = search (rules, decide)
+
+pub returns-then-id-eq1 : goal.returns-then-id-eq1
+unfolding state_by
+returns-then-id-eq1 c = search (rules, decide)
+
+pub returns-then-id-eq2 : goal.returns-then-id-eq2
+unfolding state_by
+returns-then-id-eq2 c = search (rules, decide)
+
+pub returns-then-id-eq3 : goal.returns-then-id-eq3
+unfolding state_by
+returns-then-id-eq3 c = search (rules, decide)
+
+pub returns : goal.returns
+unfolding state_by
+returns c = search (rules, decide)

@@ -1,0 +1,18 @@
+use Rattle.track.specs.State.{is_moved}
+use Rattle.track.proofs.state.is_moved.Goals as goal
+
+pub returns-in-Sound : goal.returns-in-Sound
+unfolding is_moved
+returns-in-Sound c = rw c.in-Sound.is
+
+pub returns-in-Bad : goal.returns-in-Bad
+unfolding is_moved
+returns-in-Bad c = rw c.in-Bad.is
+
+pub returns-in-Moved : goal.returns-in-Moved
+unfolding is_moved
+returns-in-Moved c = rw c.in-Moved.is
+
+pub returns-in-Taken : goal.returns-in-Taken
+unfolding is_moved
+returns-in-Taken c = rw c.in-Taken.is
