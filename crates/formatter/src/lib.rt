@@ -1,3 +1,4 @@
 // Tracks formatted, a slot a step, and their IDs checked.
+#![tactic(auto)]
 pub mod check;
 pub mod format;
