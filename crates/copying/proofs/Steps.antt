@@ -67,8 +67,9 @@ more_by : (r : Route) (c e : ℕ) (x : Copying)
 unfolding poured_by on_by
 more_by r c e x again (Missing code) = refl
 more_by r c e x again (Bytes sector) =
-    on_same (stores r (length (x.rest ++ sector) / r.q.size) (taken sector x)) _ _ (again _)
-    ∙ sym (on_again (stores r (length (x.rest ++ sector) / r.q.size) (taken sector x)) _ _)
+    let all : Copying = stores r (length (x.rest ++ sector) / r.q.size) (taken sector x) in
+    on_same all (λ y. copying r (c + e) y) (λ y. unless_ended (copying r c y) (λ z. copying r e z)) (again all)
+    ∙ sym (on_again all (λ y. copying r c y) (λ z. copying r e z))
 
 pub copying_more : (r : Route) (c e : ℕ) (x : Copying) → x.end ≡ Going → copying r (c + e) x ≡ unless_ended (copying r c x) (λ y. copying r e y)
 unfolding copying
