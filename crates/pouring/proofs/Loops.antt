@@ -69,7 +69,7 @@ module _ (r : Route) (n : ℕ) (images₀ : List (List ℕ)) where
     x = standing s scratch images w.stood.last
 
     whole_here : completed r (unless_ended x (λ z. copying r (n - s.read) z)) ≡ copied r n images₀
-    whole_here = rw (← w.stood.is) w.whole
+    whole_here = sym (ap (λ (c : Copying). completed r (unless_ended c (λ z. copying r (n - s.read) z))) w.stood.is) ∙ w.whole
 
     -- ---- another turn
     module _ (going : s.end ≡ Going) (t : Progress) (scratched : List ℕ) (left : List (List ℕ)) (turn : TurnedTo r n s scratch images t scratched left) where
