@@ -1,4 +1,4 @@
-use Prim.Native.Nat.{◌≤◌}
+use Prim.Native.Nat.{◌≤◌, ◌<◌}
 use native.Mathlib.Nat.{le_trans}
 use native.Mathlib.Omega.{arith}
 use Rattle.geometry.proofs.Sizes.{sectors_most}
@@ -23,7 +23,7 @@ finish-requires c =
     (
       c.requires.0.block.drive,
       (let few : c.write_sectors-done.result.sectors ≤ 256 = 
-    le_trans (let most : c.write_sectors-done.result.sectors ≤ c.count_of.result = written_most _ _ _ _ _ _ _ c.write_sectors-done.ensures in most) (count_most c.args.b _ (extra c) c.count_of.ensures.0) in few),
+    le_trans (let most : c.write_sectors-done.result.sectors ≤ c.count_of.result = written_most _ _ _ _ _ _ _ c.write_sectors-done.ensures in most) (count_most c.args.b _ (let extra : c.args.b.extra < 256 = omega arith in extra) c.count_of.ensures.0) in few),
       write_code _ _ _ _ _ _ _ c.write_sectors-done.ensures,
       omega (arith, c.requires.0.inside, sectors_most c.args.p c.requires.0.fits.within),
     )
