@@ -1,4 +1,5 @@
 // Assign Alternate.
 #![tactic(auto)]
+
 pub mod assign;
 pub mod keep;

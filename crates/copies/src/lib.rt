@@ -1,5 +1,6 @@
 // The command Copy Blocks: both its drives judged, its sectors copied, its end.
 #![tactic(auto)]
+
 pub mod copy;
 pub mod judge;
 pub mod obey;

@@ -13,7 +13,6 @@ use Rattle.model.specs.Block.{block_of, count_of, from_buffer, keeps, is_whole, 
 use Rattle.model.specs.Table.{check_number, is_among, row_for}
 use Rattle.model.specs.Checks.{judged, present_with, is_unknown, block_wrong, control_wrong, with_params, interleave_wrong, past_end, not_spared, size_in, bytes_of, reach_of, hits_of, in_order, judge}
 use Rattle.model.specs.Sense.{addressed, sense_of}
-use Rattle.model.specs.Feed.{command}
 use Rattle.model.specs.Machine.{fresh_disk, fresh_machine, changed, with_sense, with_buffer, with_disk, in_force, becomes, filled, storing, failing_on, providing_on}
 use Rattle.model.specs.Machine.{well}
 use Rattle.model.specs.Machine.{is_bad, is_moved, is_taken, denied, paired, parted, parted_by, some_parted, address_given, unassignable}

@@ -1,6 +1,7 @@
 // The firmware's form of the calls: it lends the controller's record and has it changed there. Thin calls over `execute_on`, which
 // takes the drives by value and is lent the buffer, and over `reset` and `fresh`, which make a record, for C and Rust to link.
 #![tactic(auto)]
+
 ghost use Rattle.std.specs.Prelude.{◌≡◌};
 ghost use Rattle.model.specs.Engine.{images_of, execute, fresh, reset_of};
 ghost use Rattle.engine.specs.Results.{result_now};

@@ -1,3 +1,4 @@
 // The constant table of the commands.
 #![tactic(auto)]
+
 pub mod rows;

@@ -1,5 +1,6 @@
 // Read and Write.
 #![tactic(auto)]
+
 pub mod read;
 pub mod transfer;
 pub mod write;

@@ -15,7 +15,7 @@ use Rattle.model.specs.Block.{block_of}
 use Rattle.model.specs.Engine.{image_of}
 use Rattle.model.specs.Records.{Is}
 use Rattle.model.specs.Power.{Keeping, first_track, second_track, CutShort, MovedOn}
-use Rattle.model.proofs.power.Facts.{is, fits, may, maps}
+use Rattle.model.proofs.power.Facts.{fits, may, maps}
 
 -- on the drive of the block
 module _ (c : Controller) (block given area : List ℕ) (images : List (List ℕ)) (p : Params) (k : Keeping c block given area images (block_of block).drive p)

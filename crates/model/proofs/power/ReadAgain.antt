@@ -17,7 +17,7 @@ use Rattle.model.specs.declared.record.Controller.{Controller}
 use Rattle.model.specs.declared.record.Answer.{Answer}
 use Rattle.model.specs.Block.{block_of, is_copy, is_whole}
 use Rattle.model.specs.Record.{drive_at, setting_in}
-use Rattle.model.specs.Engine.{image_of, obey, left, execute, fresh, reset_of}
+use Rattle.model.specs.Engine.{image_of, obey, execute, fresh, reset_of}
 use Rattle.model.specs.Power.{second_track, left_images, restarted, ReadOutside, ReadsAsBefore}
 use Rattle.model.proofs.engine.Blocks.{six_whole, other_row}
 use Rattle.model.proofs.power.Reading.{SameRead, read_same}

@@ -14,7 +14,7 @@ failed-requires c =
 
 pub carry_out-requires : goal.carry_out-requires
 carry_out-requires c =
-        let seen = c.view_of-view.ensures in
+    let seen = c.view_of-view.ensures in
     let passed = admitted c.args.b c.args.given.now c.args.entry c.args.area.now c.args.image.now _ seen _ c.judge-verdict.ensures c.requires.0 c.in-Passed.is in (
       passed,
       sym c.row_of-row.ensures.command,

@@ -9,5 +9,5 @@ put_front-requires c = let e : length c.args.entry.sense ≡ 4 = search rules in
 
 pub returns : goal.returns
 returns c =
-        let four : length c.args.entry.sense ≡ 4 = search rules in
+    let four : length c.args.entry.sense ≡ 4 = search rules in
     (rw four, c.put_front.ensures)

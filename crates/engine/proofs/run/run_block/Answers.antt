@@ -8,12 +8,11 @@ pub decode_copy-k-requires : goal.decode_copy-k-requires
 decode_copy-k-requires c = is_ten _ (sym c.requires.0) c.is_copy.ensures refl c.if-is_copy.true
 
 pub run_copy-requires : goal.run_copy-requires
-run_copy-requires c =
-    (
-      copy_formed _ _ c.decode_copy-k.ensures (sym c.is_copy.ensures ∙ c.if-is_copy.true)
-          (λ i. omega (arith, c.shared_slice_known-1.given i)),
-      search rules,
-    )
+run_copy-requires c = (
+  copy_formed _ _ c.decode_copy-k.ensures (sym c.is_copy.ensures ∙ c.if-is_copy.true)
+      (λ i. omega (arith, c.shared_slice_known-1.given i)),
+  search rules,
+)
 
 pub returns-then-is_copy : goal.returns-then-is_copy
 returns-then-is_copy c =

@@ -16,6 +16,6 @@ format_track-requires c =
 
 pub returns : goal.returns
 returns c =
-        c.format_track.ensures
+    c.format_track.ensures
     ∙ ap (λ (fill : List ℕ). format_track c.args.b c.args.p Bad fill c.args.entry c.args.image.now)
     (fill_lent _ _ ∙ plain_of _ _ _ _ c.medium_of.ensures c.plain_fill-fill.ensures.0)

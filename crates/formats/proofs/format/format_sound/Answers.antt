@@ -16,5 +16,5 @@ format_track-requires c =
 
 pub returns : goal.returns
 returns c =
-        c.format_track.ensures
+    c.format_track.ensures
     ∙ ap (λ (fill : List ℕ). format_track c.args.b c.args.p Sound fill c.args.entry c.args.image.now) (fill_lent c.args.p.size _ ∙ c.fill_of-fill.ensures.0)

@@ -1,5 +1,4 @@
 use native.Mathlib.Omega.{arith}
-use Prim.Native.Nat.{◌-◌}
 use Rattle.hex_text.proofs.Rooms.{taken_none, taken_more, taken_all}
 use Rattle.hex_text.proofs.line.accept_all.Goals as goal
 

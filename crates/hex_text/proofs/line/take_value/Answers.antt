@@ -1,8 +1,6 @@
 use Rattle.hex_text.proofs.Characters.{taken_first, take_full, taken_byte}
 use borrow.Author.Tests.{not-true, not-false}
 use mathlib.Core.Path.{sym}
-use mathlib.Core.Path.{ap}
-use mathlib.Core.Bool.{not}
 use Rattle.hex_text.proofs.line.take_value.Goals as goal
 
 -- src/line.rt:46:9

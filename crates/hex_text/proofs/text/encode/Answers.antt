@@ -1,5 +1,4 @@
 use native.Mathlib.Omega.{arith}
-use Prim.Native.Nat.{◌-◌}
 use lib.ListN.{length-set}
 use Rattle.hex_text.proofs.Texts.{written_none, written_more, written_all}
 use Rattle.hex_text.proofs.text.encode.Goals as goal

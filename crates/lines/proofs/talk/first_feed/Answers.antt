@@ -1,5 +1,4 @@
 use native.Mathlib.Omega.{arith}
-use Prim.Native.Nat.{◌-◌}
 use Rattle.lines.proofs.Hearings.{sought_none, sought_here, sought_more, sought_all}
 use Rattle.lines.proofs.talk.first_feed.Goals as goal
 

@@ -16,8 +16,8 @@ accept_all-line-requires c = (stands c.requires.talking).small
 pub returns-then-end-input : goal.returns-then-end-input
 returns-then-end-input c =
     let heard =
-        open_heard c.args.session c.args.input.now _ _ c.args.text.now _ _ _ _
-        c.first_feed-end.ensures c.accept_all-line.ensures.0 c.if-end-input.true in
+    open_heard c.args.session c.args.input.now _ _ c.args.text.now _ _ _ _
+    c.first_feed-end.ensures c.accept_all-line.ensures.0 c.if-end-input.true in
     record { taken_value = heard.0; speaks = heard.1 }
 
 pub overflow_add-end : goal.overflow_add-end
@@ -28,17 +28,16 @@ overflow_add-end c =
     search (rules, before)
 
 pub answer-requires : goal.answer-requires
-answer-requires c =
-    (
-      text_room _ c.requires.talking c.requires.text_length_in_bounds,
-      still_fits c.args.session c.args.input.now _ _ c.args.text.now _ _ _ _ c.first_feed-end.ensures c.accept_all-line.ensures.0 c.requires.talking,
-    )
+answer-requires c = (
+  text_room _ c.requires.talking c.requires.text_length_in_bounds,
+  still_fits c.args.session c.args.input.now _ _ c.args.text.now _ _ _ _ c.first_feed-end.ensures c.accept_all-line.ensures.0 c.requires.talking,
+)
 
 pub returns : goal.returns
 returns c =
     let answered = c.answer in
     let heard =
-        line_heard c.args.session c.args.input.now _ _ c.args.text.now _ _ _ _
-        c.first_feed-end.ensures c.accept_all-line.ensures.0 c.if-end-input.false answered.result _ _ _
-        answered.ensures.taken_value answered.ensures.speaks in
+    line_heard c.args.session c.args.input.now _ _ c.args.text.now _ _ _ _
+    c.first_feed-end.ensures c.accept_all-line.ensures.0 c.if-end-input.false answered.result _ _ _
+    answered.ensures.taken_value answered.ensures.speaks in
     record { taken_value = heard.0; speaks = heard.1 }

@@ -12,21 +12,19 @@ write_sectors-done-requires c =
     (c.requires.0.fits, omega (arith, c.requires.0.inside, c.count_of.ensures.0), room_all _ _ _ _ c.count_of.ensures.0 c.requires.0.enough)
 
 pub keep_last-requires : goal.keep_last-requires
-keep_last-requires c =
-    (
-      omega (arith, c.requires.0.fits.within.size_most, c.requires.1),
-      room_done _ _ _ _ _ (let most : c.write_sectors-done.result.sectors ≤ c.count_of.result = written_most _ _ _ _ _ _ _ c.write_sectors-done.ensures in most) c.count_of.ensures.0 c.requires.0.enough,
-    )
+keep_last-requires c = (
+  omega (arith, c.requires.0.fits.within.size_most, c.requires.1),
+  room_done _ _ _ _ _ (let most : c.write_sectors-done.result.sectors ≤ c.count_of.result = written_most _ _ _ _ _ _ _ c.write_sectors-done.ensures in most) c.count_of.ensures.0 c.requires.0.enough,
+)
 
 pub finish-requires : goal.finish-requires
-finish-requires c =
-    (
-      c.requires.0.block.drive,
-      (let few : c.write_sectors-done.result.sectors ≤ 256 = 
-    le_trans (let most : c.write_sectors-done.result.sectors ≤ c.count_of.result = written_most _ _ _ _ _ _ _ c.write_sectors-done.ensures in most) (count_most c.args.b _ (let extra : c.args.b.extra < 256 = omega arith in extra) c.count_of.ensures.0) in few),
-      write_code _ _ _ _ _ _ _ c.write_sectors-done.ensures,
-      omega (arith, c.requires.0.inside, sectors_most c.args.p c.requires.0.fits.within),
-    )
+finish-requires c = (
+  c.requires.0.block.drive,
+  (let few : c.write_sectors-done.result.sectors ≤ 256 =
+      le_trans (let most : c.write_sectors-done.result.sectors ≤ c.count_of.result = written_most _ _ _ _ _ _ _ c.write_sectors-done.ensures in most) (count_most c.args.b _ (let extra : c.args.b.extra < 256 = omega arith in extra) c.count_of.ensures.0) in few),
+  write_code _ _ _ _ _ _ _ c.write_sectors-done.ensures,
+  omega (arith, c.requires.0.inside, sectors_most c.args.p c.requires.0.fits.within),
+)
 
 pub returns : goal.returns
 returns c =
