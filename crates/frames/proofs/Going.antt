@@ -1,12 +1,11 @@
--- What holds between two calls: no slice has changed its length, the text has room for any answer, and the slices lent are where an
--- input from the start has left the program.
+-- What holds between two calls: the slices lent are where an input from the start has left the program.
 use Prim.Native.Nat.{ℕ, ◌+◌, ◌-◌, ◌≤◌, ◌<◌}
 use mathlib.Core.Path.{◌≡◌, refl, sym, ap, ◌∙◌}
-use mathlib.Core.Bool.{true, false, false≢true}
 use mathlib.Core.List.{List, [], ◌++◌}
 use native.Mathlib.Omega.{arith}
 use lib.ListN.{length, take, drop, replicate, length-take, length-drop, length-replicate, take-append-drop, drop_of_length-le}
 use lib.Seq.{take_all, drop-drop}
+use Rattle.std.specs.Prelude.{Result, Ok, OnOk}
 use Rattle.model.specs.Engine.{images_of}
 use Rattle.lines.specs.declared.talk.Heard.{Heard}
 use Rattle.lines.specs.Talk.{Talk, Spoken, talked}
@@ -16,39 +15,6 @@ use Rattle.lines.proofs.AnswerTexts.{front_fits}
 use Rattle.lines.proofs.Standing.{talking_on}
 use Rattle.lines.proofs.Talks.{talked_cut}
 use Rattle.frames.specs.Onward.{Onward}
-
--- The lengths of the slices that a session is lent.
-pub record Lengths : Type 0 where
-  pub bytes : ℕ
-  pub area : ℕ
-  pub image0 : ℕ
-  pub image1 : ℕ
-  pub image2 : ℕ
-  pub image3 : ℕ
-  pub text : ℕ
-
-abbrev pub lengths : (bytes area image0 image1 image2 image3 text : List ℕ) → Lengths
-lengths bytes area image0 image1 image2 image3 text = record {
-  bytes = length bytes;
-  area = length area;
-  image0 = length image0;
-  image1 = length image1;
-  image2 = length image2;
-  image3 = length image3;
-  text = length text;
-}
-
-pub record Going (first now : Lengths) (x : Talk) : Type 0 where
-  pub same : now ≡ first
-  pub room : text_length ≤ now.text
-  pub talking : Talking x
-
-pub going_first : {now : Lengths} {x : Talk} → Talking x → text_length ≤ now.text → Going now now x
-going_first t h = record { same = refl; room = h; talking = t }
-
--- Whatever keeps the lengths and leaves the program where it stands.
-pub going_on : {first now : Lengths} {x : Talk} (now' : Lengths) (y : Talk) → Going first now x → now' ≡ now → Talking y → Going first now' y
-going_on now' y g e t = record { same = e ∙ g.same; room = rw e g.room; talking = t }
 
 -- ---- what `hear` leaves
 pub heard_on : {x : Talk} (heard : Heard) (input before text bytes area : List ℕ) (images : List (List ℕ)) → Talking x
@@ -96,8 +62,9 @@ onward_more {from} next input o e = record {
   is = e ∙ (rw o.is (sym (ap (λ (s : Spoken). s.talk) (talked_cut from o.heard input))));
 }
 
-pub none_taken : {A : Type 0} → false ≡ true → A
-none_taken e = absurd (false≢true e)
+-- what holds after an `Ok` holds where it is one
+pub gone_on : {T E P : Type 0} {r : Result T E} {v : T} → r ≡ Ok v → OnOk r P → P
+gone_on e h = rw e at h
 
 -- ---- the slices of `main`
 pub at_first : AtFirst (replicate 1030 0) (replicate 1024 0) (images_of (replicate 25360 0) (replicate 25360 0) [] [])
