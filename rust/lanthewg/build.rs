@@ -1,5 +1,5 @@
 //! Links the proved archive that `./build firmware` writes: `libfirmware.a` in the folder that `LANTHEWG_ARCHIVE_DIR` names,
-//! or in the repository's `target/staticlib`.
+//! or in the repository's `crates/firmware/out`.
 
 use std::env;
 use std::path::{Path, PathBuf};
@@ -9,7 +9,7 @@ fn main() {
     println!("cargo:rerun-if-env-changed=LANTHEWG_ARCHIVE_DIR");
     let folder = match env::var_os("LANTHEWG_ARCHIVE_DIR") {
         Some(named) => PathBuf::from(named),
-        None => Path::new(env!("CARGO_MANIFEST_DIR")).join("../../target/staticlib"),
+        None => Path::new(env!("CARGO_MANIFEST_DIR")).join("../../crates/firmware/out"),
     };
     let archive = folder.join("libfirmware.a");
     println!("cargo:rerun-if-changed={}", archive.display());

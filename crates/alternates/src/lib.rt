@@ -1,3 +1,4 @@
 // Assign Alternate.
+#![tactic(auto)]
 pub mod assign;
 pub mod keep;

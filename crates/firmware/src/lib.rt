@@ -1,5 +1,6 @@
 // The firmware's form of the calls: it lends the controller's record and has it changed there. Thin calls over `execute_on`, which
 // takes the drives by value and is lent the buffer, and over `reset` and `fresh`, which make a record, for C and Rust to link.
+#![tactic(auto)]
 ghost use Rattle.std.specs.Prelude.{◌≡◌};
 ghost use Rattle.model.specs.Engine.{images_of, execute, fresh, reset_of};
 ghost use Rattle.engine.specs.Results.{result_now};
@@ -36,7 +37,8 @@ pub extern "C" fn lanthewg_execute(
         image2,
         image3,
     );
-    c.drives = ran.drives;
+    let drives = ran.drives;
+    c.drives = drives;
     ran.answer
 }
 

@@ -2,13 +2,13 @@
 // (lines::talk); here are the slices, reading and writing.
 #![tactic(auto)]
 
-ghost use Rattle.std.specs.Prelude.{◌≤◌, length, IfOk, OnOk};
-ghost use Rattle.std.specs.Prelude.{◌≡◌};
+ghost use Rattle.std.specs.Prelude.{◌≡◌, ℕ, ◌≤◌, ◌<◌, length, take, IfOk, OnOk, OnErr};
+ghost use Rattle.std.specs.Io.KnownBytes.{Appends, Consumes, IsAtEnd, Keeps};
 ghost use Rattle.model.specs.Engine.{images_of};
 ghost use Rattle.lines.specs.Talk.{talked};
 ghost use Rattle.lines.specs.Frames.{Talking};
 ghost use Rattle.lines.specs.Hearing.{talk_now, text_length};
-ghost use Rattle.frames.specs.Onward.{Onward};
+ghost use Rattle.frames.specs.Onward.{WritesFront, Onward, CutOff, Served, Failed};
 
 use lines::talk::{Session, begin, close, hear};
 use lines::{AREA_LENGTH, IMAGE_LENGTH, LINE_LENGTH, TEXT_LENGTH};
@@ -25,7 +25,10 @@ pub struct Went {
 // How many characters of the input have come, none at its end. A read that a signal has interrupted is tried again. One that fails
 // otherwise is passed on: where the input ends is then unknown.
 fn read_some<R: Read>(reader: &mut R, input: &mut [u8]) -> io::Result<usize>
-    ensures { IfOk result (λ n. n ≤ length input.new) }
+    ensures bound { IfOk result (λ n. n ≤ length input.new) }
+    ensures ok { IfOk result (λ n. Consumes (R.remaining reader.old) (R.remaining reader.new) (take n input.new)) }
+    ensures end { IfOk result (λ n. n ≡ 0 → 0 < length input.old → IsAtEnd (R.remaining reader.new)) }
+    ensures err { OnErr result (Keeps (R.remaining reader.old) (R.remaining reader.new)) }
 {
     for _ in 0..u64::MAX {
         match reader.read(input) {
@@ -40,11 +43,29 @@ fn read_some<R: Read>(reader: &mut R, input: &mut [u8]) -> io::Result<usize>
     Err(io::Error::from(ErrorKind::Interrupted))
 }
 
-// Writes the first n characters of the text, all of them, or fails.
+// Writes the first n characters of the text. Where that fails, a front of them is written. A write that a signal has interrupted is
+// tried again.
 fn say<W: Write>(writer: &mut W, text: &[u8], n: usize) -> io::Result<()>
     requires { n ≤ length text.now }
+    ensures ok { OnOk result (Appends (W.contents writer.old) (W.contents writer.new) (take n text.now)) }
+    ensures err { OnErr result (WritesFront (W.contents writer.old) (W.contents writer.new) (take n text.now)) }
 {
-    writer.write_all(&text[0..n])
+    let mut done = 0;
+    for _ in 0..u64::MAX {
+        if done == n {
+            return Ok(());
+        }
+        match writer.write(&text[done..n]) {
+            Ok(0) => return Err(io::Error::from(ErrorKind::WriteZero)),
+            Ok(more) => done += more,
+            Err(e) => {
+                if e.kind() != ErrorKind::Interrupted {
+                    return Err(e);
+                }
+            }
+        }
+    }
+    Err(io::Error::from(ErrorKind::Interrupted))
 }
 
 // Takes in what has come of the input, all of it, a line at a time, and writes what is said. A failed write ends the program.
@@ -62,12 +83,18 @@ fn feed<W: Write>(
 ) -> Went
     requires talking { Talking (talk_now first bytes.old area.old (images_of image0.old image1.old image2.old image3.old)) }
     requires text_length_in_bounds { text_length ≤ length text.old }
-    ensures talking_2 { Talking (talk_now result.session bytes.new area.new
+    ensures talking_after { Talking (talk_now result.session bytes.new area.new
         (images_of image0.new image1.new image2.new image3.new)) }
-    ensures image3_after { OnOk result.going (talk_now result.session bytes.new area.new
+    ensures heard { OnOk result.going (talk_now result.session bytes.new area.new
         (images_of image0.new image1.new image2.new image3.new)
         ≡ (talked (talk_now first bytes.old area.old
         (images_of image0.old image1.old image2.old image3.old)) input.now).talk) }
+    ensures said { OnOk result.going (Appends (W.contents writer.old) (W.contents writer.new)
+        (talked (talk_now first bytes.old area.old
+        (images_of image0.old image1.old image2.old image3.old)) input.now).text) }
+    ensures cut { OnErr result.going (WritesFront (W.contents writer.old) (W.contents writer.new)
+        (talked (talk_now first bytes.old area.old
+        (images_of image0.old image1.old image2.old image3.old)) input.now).text) }
 {
     let end = input.len();
     let mut here = first;
@@ -110,12 +137,17 @@ fn converse<R: Read, W: Write>(
 ) -> Went
     requires talking { Talking (talk_now first bytes.old area.old (images_of image0.old image1.old image2.old image3.old)) }
     requires text_length_in_bounds { text_length ≤ length text.old }
-    ensures talking_2 { Talking (talk_now result.session bytes.new area.new
+    ensures talking_after { Talking (talk_now result.session bytes.new area.new
         (images_of image0.new image1.new image2.new image3.new)) }
     ensures onward { OnOk result.going (Onward (talk_now first bytes.old area.old
         (images_of image0.old image1.old image2.old image3.old))
         (talk_now result.session bytes.new area.new
-        (images_of image0.new image1.new image2.new image3.new))) }
+        (images_of image0.new image1.new image2.new image3.new))
+        (R.remaining reader.old) (R.remaining reader.new) (W.contents writer.old) (W.contents writer.new)) }
+    ensures end { OnOk result.going (0 < length input.old → IsAtEnd (R.remaining reader.new)) }
+    ensures cut { OnErr result.going (CutOff (talk_now first bytes.old area.old
+        (images_of image0.old image1.old image2.old image3.old))
+        (R.remaining reader.old) (R.remaining reader.new) (W.contents writer.old) (W.contents writer.new)) }
 {
     let mut session = first;
     for _ in 0..u64::MAX {
@@ -137,7 +169,7 @@ fn converse<R: Read, W: Write>(
         let went = feed(
             writer,
             session,
-            &input[0..n],
+            &input[..n],
             bytes,
             area,
             image0,
@@ -163,7 +195,14 @@ fn converse<R: Read, W: Write>(
     }
 }
 
-fn main(rt: HostRuntime) -> io::Result<()> {
+// The whole program, for any reader and any writer: every line that the reader gives is answered, the last one too where it has no
+// line feed. After a read that failed, the line under way is not carried out.
+fn run<R: Read, W: Write>(reader: &mut R, writer: &mut W) -> io::Result<()>
+    ensures served { OnOk result (Served (R.remaining reader.old) (R.remaining reader.new)
+        (W.contents writer.old) (W.contents writer.new)) }
+    ensures failed { OnErr result (Failed (R.remaining reader.old) (R.remaining reader.new)
+        (W.contents writer.old) (W.contents writer.new)) }
+{
     let mut image0 = [0u8; IMAGE_LENGTH];
     let mut image1 = [0u8; IMAGE_LENGTH];
     let mut image2 = [0u8; 0];
@@ -172,12 +211,10 @@ fn main(rt: HostRuntime) -> io::Result<()> {
     let mut bytes = [0u8; LINE_LENGTH];
     let mut text = [0u8; TEXT_LENGTH];
     let mut input = [0u8; 4096];
-    let mut reader = rt.stdin();
-    let mut writer = rt.stdout();
     let first = begin(&bytes, &area, &image0, &image1, &image2, &image3);
     let last = converse(
-        &mut reader,
-        &mut writer,
+        reader,
+        writer,
         first,
         &mut input,
         &mut bytes,
@@ -188,9 +225,13 @@ fn main(rt: HostRuntime) -> io::Result<()> {
         &mut image3,
         &mut text,
     );
-    last.going?;
+    let session = last.session;
+    match last.going {
+        Ok(()) => {}
+        Err(e) => return Err(e),
+    }
     let heard = close(
-        last.session,
+        session,
         &bytes,
         &mut area,
         &mut image0,
@@ -199,5 +240,10 @@ fn main(rt: HostRuntime) -> io::Result<()> {
         &mut image3,
         &mut text,
     );
-    say(&mut writer, &text, heard.length)
+    let n = heard.length;
+    say(writer, &text, n)
+}
+
+fn main(rt: HostRuntime) -> io::Result<()> {
+    run(&mut rt.stdin(), &mut rt.stdout())
 }

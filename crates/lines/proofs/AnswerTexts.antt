@@ -10,7 +10,7 @@ use Rattle.base.specs.Part.{splice}
 use Rattle.base.proofs.Parts.{length_splice}
 use Rattle.model.specs.declared.record.Answer.{Answer}
 use Rattle.model.specs.Record.{bare_answer}
-use Rattle.hex.specs.Hex.{encoded}
+use Rattle.hex_text.specs.Hex.{encoded}
 use Rattle.lines.specs.Said.{answer_text, reset_text, bad_text}
 
 -- ---- one text behind another

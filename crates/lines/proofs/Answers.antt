@@ -16,9 +16,9 @@ use Rattle.model.specs.declared.record.Outcome.{Outcome}
 use Rattle.model.specs.Block.{block_length}
 use Rattle.model.specs.Engine.{execute, reset_of}
 use Rattle.engine.specs.Results.{result_now}
-use Rattle.hex.specs.declared.line.Line.{Line}
-use Rattle.hex.specs.Line.{line_now, whole_of}
-use Rattle.hex.specs.Frame.{is_reset}
+use Rattle.hex_text.specs.declared.line.Line.{Line}
+use Rattle.hex_text.specs.Line.{line_now, whole_of}
+use Rattle.hex_text.specs.Frame.{is_reset}
 use Rattle.lines.specs.Said.{answer_text, reset_text, bad_text, Said, Says, result_said, frame_said, reset_said, bad_said, line_said}
 use Rattle.lines.specs.declared.answer.Told.{Told}
 use Rattle.lines.proofs.AnswerTexts.{told_length, length_reset, front_taken}

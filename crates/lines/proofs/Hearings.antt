@@ -13,9 +13,9 @@ use Rattle.base.specs.Part.{splice}
 use Rattle.base.proofs.Decide.{pick_true, pick-false}
 use Rattle.base.proofs.Parts.{splice_none}
 use Rattle.model.specs.Engine.{fresh}
-use Rattle.hex.specs.declared.line.Line.{Line}
-use Rattle.hex.specs.Line.{Reading, line_now, started, accepted_all, is_begun, whole_of}
-use Rattle.hex.proofs.Rooms.{all_room}
+use Rattle.hex_text.specs.declared.line.Line.{Line}
+use Rattle.hex_text.specs.Line.{Reading, line_now, started, accepted_all, is_begun, whole_of}
+use Rattle.hex_text.proofs.Rooms.{all_room}
 use Rattle.lines.specs.declared.answer.Told.{Told}
 use Rattle.lines.specs.declared.talk.Session.{Session}
 use Rattle.lines.specs.declared.talk.Heard.{Heard}

@@ -10,9 +10,9 @@ use lib.Dec.{eqb}
 use borrow.Author.Tests.{lt-ltb}
 use Rattle.base.specs.Pick.{pick}
 use Rattle.base.proofs.Decide.{pick_true, pick-false}
-use Rattle.hex.specs.Line.{Reading, line_now, started, spoilt, spoilt_line, accepted, accepted_all, is_begun, whole_of, line_of}
-use Rattle.hex.proofs.Lines.{line_read}
-use Rattle.hex.proofs.Rooms.{accepted_by, all_length, all_append}
+use Rattle.hex_text.specs.Line.{Reading, line_now, started, spoilt, spoilt_line, accepted, accepted_all, is_begun, whole_of, line_of}
+use Rattle.hex_text.proofs.Lines.{line_read}
+use Rattle.hex_text.proofs.Rooms.{accepted_by, all_length, all_append}
 use Rattle.lines.specs.Said.{Said, line_said}
 use Rattle.lines.specs.Talk.{Talk, Spoken, answered, talked, closed}
 use Rattle.lines.specs.Frames.{with_first, lines_of, said_behind, lines_said, frames_said, first_talk, spoken_behind, joined, end_said, pieces_said}

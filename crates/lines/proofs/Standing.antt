@@ -24,8 +24,8 @@ use Rattle.model.proofs.engine.Assembled.{drive_below}
 use Rattle.model.proofs.claim.Agrees.{Agrees}
 use Rattle.model.proofs.claim.Restarted.{agree_fresh}
 use Rattle.model.proofs.claim.Called.{call_answered}
-use Rattle.hex.specs.Line.{whole_of}
-use Rattle.hex.proofs.Rooms.{accepted_high, accepted_room}
+use Rattle.hex_text.specs.Line.{whole_of}
+use Rattle.hex_text.proofs.Rooms.{accepted_high, accepted_room}
 use Rattle.lines.specs.Said.{Said, line_said, reset_said, bad_said, frame_said, result_said}
 use Rattle.lines.specs.Talk.{Talk, Spoken, answered, heard, talked}
 use Rattle.lines.specs.Frames.{first_images, first_talk, spoken_behind, Talking}

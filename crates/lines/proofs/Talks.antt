@@ -7,7 +7,7 @@ use native.Mathlib.Omega.{arith}
 use lib.ListN.{length, take}
 use lib.Dec.{eqb}
 use Rattle.base.proofs.Decide.{pick_true, pick-false}
-use Rattle.hex.specs.Line.{Reading, accepted, accepted_all}
+use Rattle.hex_text.specs.Line.{Reading, accepted, accepted_all}
 use Rattle.lines.specs.Talk.{Talk, Spoken, answered, heard, talked}
 use Rattle.lines.specs.Frames.{spoken_behind, pieces_talked, joined}
 use Rattle.lines.specs.Hearing.{feed_at}

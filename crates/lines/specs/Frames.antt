@@ -2,7 +2,7 @@
 use Rattle.std.specs.Prelude.{ℕ, ◌≡◌, List, [], ◌∷◌, ◌++◌, replicate, eqb}
 use Rattle.base.specs.Pick.{pick}
 use Rattle.model.specs.Engine.{fresh}
-use Rattle.hex.specs.Line.{line_now, started, line_of}
+use Rattle.hex_text.specs.Line.{line_now, started, line_of}
 use Rattle.lines.specs.Said.{Said, line_said}
 use Rattle.lines.specs.Talk.{Talk, Spoken, talked, closed}
 

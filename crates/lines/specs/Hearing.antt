@@ -2,7 +2,7 @@
 use Rattle.std.specs.Prelude.{ℕ, suc, min, ◌≡◌, List, [], ◌∷◌, length, replicate, eqb}
 use Rattle.base.specs.Pick.{pick}
 use Rattle.base.specs.Part.{splice}
-use Rattle.hex.specs.Line.{line_now}
+use Rattle.hex_text.specs.Line.{line_now}
 use Rattle.lines.specs.declared.talk.Session.{Session}
 use Rattle.lines.specs.declared.talk.Heard.{Heard}
 use Rattle.lines.specs.Talk.{Talk, Spoken}

@@ -8,8 +8,8 @@ use Rattle.model.specs.declared.record.Controller.{Controller}
 use Rattle.model.specs.Block.{block_length}
 use Rattle.model.specs.Record.{bare_answer}
 use Rattle.model.specs.Engine.{Result, execute, reset_of}
-use Rattle.hex.specs.Hex.{encoded}
-use Rattle.hex.specs.Frame.{is_reset}
+use Rattle.hex_text.specs.Hex.{encoded}
+use Rattle.hex_text.specs.Frame.{is_reset}
 use Rattle.lines.specs.declared.answer.Told.{Told}
 
 -- Number, status, message, data; then a line feed.

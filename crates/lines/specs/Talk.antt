@@ -2,7 +2,7 @@
 use Rattle.std.specs.Prelude.{ℕ, List, [], ◌∷◌, ◌++◌, eqb}
 use Rattle.base.specs.Pick.{pick}
 use Rattle.model.specs.declared.record.Controller.{Controller}
-use Rattle.hex.specs.Line.{Reading, line_now, started, accepted, is_begun, whole_of}
+use Rattle.hex_text.specs.Line.{Reading, line_now, started, accepted, is_begun, whole_of}
 use Rattle.lines.specs.Said.{line_said}
 
 -- Between two characters: the controller, what is read of the line under way, the data area, the images.

@@ -2,15 +2,15 @@
 ghost use Rattle.std.specs.Prelude.{◌≡◌, ◌+◌, ◌*◌, ◌≤◌, min, length};
 ghost use Rattle.base.specs.Part.{splice};
 ghost use Rattle.model.specs.Engine.{images_of, reset_of};
-ghost use Rattle.hex.specs.Line.{line_now, whole_of};
+ghost use Rattle.hex_text.specs.Line.{line_now, whole_of};
 ghost use Rattle.lines.specs.Said.{answer_text, bad_text, reset_text, Says, frame_said, line_said};
 
 use checks::block::block_length;
 use drives::reset::reset;
 use engine::run::execute;
-use hex::frame::is_reset;
-use hex::line::Line;
-use hex::text::encode;
+use hex_text::frame::is_reset;
+use hex_text::line::Line;
+use hex_text::text::encode;
 use model::record::{Answer, Controller};
 
 const LINE_FEED: u8 = 0x0A;

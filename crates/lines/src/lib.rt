@@ -1,4 +1,5 @@
 // The program frames but for reading and writing: its input taken a line at a time, each answered by a line of hex digits.
+#![tactic(auto)]
 pub mod answer;
 pub mod talk;
 

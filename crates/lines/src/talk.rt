@@ -7,7 +7,7 @@ ghost use Rattle.lines.specs.Hearing.{talk_now, Speaks, AtFirst, text_length, fe
 
 use crate::answer::answer_line;
 use drives::reset::fresh;
-use hex::line::{Line, accept_all, is_begun, start};
+use hex_text::line::{Line, accept_all, is_begun, start};
 use model::record::Controller;
 
 const LINE_FEED: u8 = 0x0A;

@@ -1,2 +1,3 @@
 // The constant table of the commands.
+#![tactic(auto)]
 pub mod rows;

@@ -1,4 +1,5 @@
 // Read and Write.
+#![tactic(auto)]
 pub mod read;
 pub mod transfer;
 pub mod write;

@@ -1,1 +1,3 @@
 // No functions: what proofs by hand share stands in proofs/.
+
+#![tactic(auto)]

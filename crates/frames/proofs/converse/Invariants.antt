@@ -13,3 +13,4 @@ invariant-loop g l =
     × Onward (talk_now l.initial.session l.initial.bytes l.initial.area
     (images_of l.initial.image0 l.initial.image1 l.initial.image2 l.initial.image3))
     (talk_now l.session l.bytes l.area (images_of l.image0 l.image1 l.image2 l.image3))
+    (g.R.Read.remaining l.initial.reader) (g.R.Read.remaining l.reader) (g.W.Write.contents l.initial.writer) (g.W.Write.contents l.writer)

@@ -1,0 +1,13 @@
+// The bytes of a line that has been read to its end.
+ghost use Rattle.std.specs.Prelude.{◌≡◌};
+ghost use Rattle.hex_text.specs.Frame.{is_reset};
+
+// FF alone.
+pub fn is_reset(frame: &[u8]) -> bool
+    ensures { result ≡ is_reset frame.now }
+{
+    if frame.len() != 1 {
+        return false;
+    }
+    frame[0] == 0xFF
+}

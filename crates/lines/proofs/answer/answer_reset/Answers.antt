@@ -1,0 +1,6 @@
+use Rattle.lines.proofs.Answers.{reset_answered}
+use Rattle.lines.proofs.answer.answer_reset.Goals as goal
+
+pub returns : goal.returns
+returns c =
+    reset_answered _ _ _ _ _ c.reset-outcome.ensures c.tell.ensures
