@@ -1,5 +1,6 @@
 // Which slot of a track each sector has.
 #![tactic(auto)]
+
 ghost use Rattle.std.specs.Prelude.{◌≡◌, ◌+◌, ◌-◌, ◌%◌, ◌≤◌, ◌<◌, ◌++◌, length, replicate};
 ghost use Rattle.interleave.specs.Layout.{empty_from, layout_of};
 

@@ -1,5 +1,6 @@
 // Sectors by their addresses, read and written: each is found as the track library promises.
 #![tactic(auto)]
+
 pub mod read;
 pub mod run;
 pub mod transfer;

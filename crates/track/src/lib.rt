@@ -1,5 +1,6 @@
 // Tracks of an image: their IDs and states, pairs, and where their sectors are found.
 #![tactic(auto)]
+
 pub mod find;
 pub mod id;
 pub mod pair;

@@ -11,7 +11,7 @@ use mathlib.Core.List.{List, [], ◌∷◌, map, map-id}
 use mathlib.Core.Option.{some as found}
 use lib.ListN.{length-map}
 use seplogic.Ra.Ura.{Ura}
-use seplogic.Ra.TreeShare.{full_share}
+use base.Fraction.{full_share}
 use mir.Syntax.{Lifetime, Sym, Ty, Tys, ty_struct}
 use mir.Fields.{get_v, set_v}
 use mir.Val.{Val, Vals, vstruct, vptr}
@@ -92,7 +92,7 @@ module _ {M : Type 1} {𝓤 : Ura M} {𝓛 : Logic 𝓤} {K : Type 0} {Γ : List
 
 -- ---- an array of records
 module _ (R : RattleType) (D : Type 0) (to : D → R.Denot) (one : (x y : D) → to x ≡ to y → x ≡ y) where
-  each_through : (xs : List D) (us : List Val) → shadow (each R.Denot R.own (map to xs) us) → shadow (each D (Recorded R D to one).own xs us)
+  each_through : (xs : List D) (us : List Val) → shadow (each R.Denot R.own_val (map to xs) us) → shadow (each D (Recorded R D to one).own_val xs us)
   each_through [] [] s = s
   each_through [] (u ∷ us) s = s
   each_through (x ∷ xs) [] s = s

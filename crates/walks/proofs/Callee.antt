@@ -11,7 +11,7 @@ use mir.Syntax.{Fn}
 use mir.Val.{Val}
 use base.Logic.{ent, emp, id⊢}
 use prog.Model.{Model}
-use prog.Routine.{Name, Routine, Env}
+use prog.Routine.{Callee, Routine, Env}
 use prog.Wp.{WpFn, Tables, Closed}
 use types.Logic.{Logic}
 use types.Kit.{Goal, Soaks, Item, ‵, raw, ◌⊛◌, some, later, Seq, Step, step, ◌$◌, move, join, split, use0, use1, pick, await}
@@ -67,7 +67,7 @@ module _ {M : Type 1} {𝓤 : Ura M} {𝓛 : Logic 𝓤} {K : Type 0} {Γ : List
         let R : RattleType = result_row 𝓛 T c y in
         let κs : Lfts T.signature.lifetimes = lives 𝓛 T c y in
         let a : Args T.signature κs = arguments 𝓛 T c y in
-        use1 𝓛 (later (some (λ (r : R.Denot). (tokens 𝓛 T c y ⊛ ‵ (R.own r (w ∷ []))) ⊛ raw (ensured 𝓛 T c κs a y.1 r)))) (id⊢ 𝓤 _) $
+        use1 𝓛 (later (some (λ (r : R.Denot). (tokens 𝓛 T c y ⊛ ‵ (R.own_val r (w ∷ []))) ⊛ raw (ensured 𝓛 T c κs a y.1 r)))) (id⊢ 𝓤 _) $
         await t z $ pick t (λ r. split t $ move t (1 ∷ []) $
         use1 𝓛 (some (λ (ws : Lasts T κs a). ‵ (lasts T κs a ws) ⊛ ensured_by 𝓛 T c y r ws)) (id⊢ 𝓤 _) $ pick t (λ ws. split t $
         -- [the last values; what it ensures; the tokens and what the result owns]
@@ -76,8 +76,8 @@ module _ {M : Type 1} {𝓤 : Ura M} {𝓛 : Logic 𝓤} {K : Type 0} {Γ : List
 module _ {M : Type 1} {𝓤 : Ura M} (𝓛 : Logic 𝓤) (𝓜 : Model 𝓤 𝓛.H) (𝓡 : Running 𝓤 𝓛.H 𝓜) (S : Signature) (s : Spec 𝓤 S) where
   open 𝓛 use {H}
 
-  pub routine_meets : (γ : Env) (self : Name) (f : Fn) → Closed 𝓤 H (tables 𝓤 H 𝓜 𝓡 γ).C (tables 𝓤 H 𝓜 𝓡 γ).Λ self f
-      → (c : Contract 𝓤) (callee : Name) (r : Routine) → γ callee ≡ r → Triple 𝓤 (𝓡.run r) c
+  pub routine_meets : (γ : Env) (self : Callee) (f : Fn) → Closed 𝓤 H (tables 𝓤 H 𝓜 𝓡 γ).C (tables 𝓤 H 𝓜 𝓡 γ).Λ self f
+      → (c : Contract 𝓤) (callee : Callee) (r : Routine) → γ callee ≡ r → Triple 𝓤 (𝓡.run r) c
       → ((𝓣 : Tables 𝓤 H) → Triple 𝓤 (𝓣.C callee) c → Meets 𝓛 S (WpFn 𝓤 H 𝓣.C 𝓣.Λ f) s)
       → Meets 𝓛 S ((tables 𝓤 H 𝓜 𝓡 γ).C self) s
   unfolding tables_of

@@ -3,7 +3,7 @@ pub use mathlib.Core.Path.{◌≡◌, refl}
 pub use Prim.Native.Nat.{ℕ, ◌+◌}
 pub use mathlib.Core.List.{[], ◌∷◌}
 pub use seplogic.Ra.Ura.{Ura}
-pub use seplogic.Ra.TreeShare.{full_share}
+pub use base.Fraction.{full_share}
 pub use mir.Syntax.{w8, named}
 pub use mir.Val.{Val, vptr, vcons, vnil}
 pub use base.Logic.{SProp, id⊢}
@@ -13,8 +13,8 @@ pub use prog.Routine.{Routine}
 pub use prog.Wp.{Heap, Calls, Loops, WpFn}
 pub use ghost.Atoms.{Atoms}
 pub use contract.Monad.{Fun}
-pub use contract.Running.{given_of}
-pub use types.Kit.{Given, Item, ‵, raw, ◌⊛◌, ◌$◌, ◌∵◌, !, qed, by, move, use1, drop, rewrite, split, join, fsplit, fjoin}
+pub use types.Logic.{Logic}
+pub use types.Kit.{Item, ‵, raw, ◌⊛◌, ◌$◌, ◌∵◌, !, qed, by, move, use1, drop, rewrite, split, join, fsplit, fjoin}
 pub use types.Run.{look, init, stop, from, of_opd, unit_lit, and_then, no_more, land, returns}
 pub use types.Tokens.{lft_new, lft_end}
 pub use sound.WpLaws.{FmC, fm_of}

@@ -179,9 +179,9 @@ module _ (F : Lends) where
           lives = κs.1;
           share = qs.0;
           shares = qs.1;
-          block = a.0.ptr.0;
-          offset = a.0.ptr.1;
-          name = a.0.name;
+          block = a.0.ref_ptr.0;
+          offset = a.0.ref_ptr.1;
+          name = a.0.ghost_name;
           held = a.0.now;
           passed = a.1;
         }

@@ -11,7 +11,7 @@ use Prim.Native.Nat.{ℕ, zero, ◌+◌}
 use mathlib.Core.List.{List, [], ◌∷◌}
 use mathlib.Core.Option.{some}
 use seplogic.Ra.Ura.{Ura}
-use seplogic.Ra.TreeShare.{full_share}
+use base.Fraction.{full_share}
 use lib.Dec.{T}
 use mir.Syntax.{Sym, Ty, Tys, ty_struct, deref, field, place, Opd as Operand, copy, Rv as RValue, addr_of, aggregate, seq, assign, Body}
 use mir.Fields.{get_v, set_v}

@@ -6,7 +6,7 @@ use mathlib.Core.Path.{◌≡◌, ap}
 use Prim.Native.Nat.{ℕ}
 use mathlib.Core.List.{List, [], ◌∷◌}
 use seplogic.Ra.Ura.{Ura}
-use seplogic.Ra.TreeShare.{full_share}
+use base.Fraction.{full_share}
 use mir.Syntax.{Ty}
 use mir.Val.{Val}
 use base.Stored.{Gv}
@@ -26,7 +26,7 @@ module _ {M : Type 1} {𝓤 : Ura M} {𝓛 : Logic 𝓤} {K : Type 0} {Γ : List
   module _ {κ : Lft} {q : Share} {γ : GName} where
     -- the record's cell, what the record owns, the open borrow, and the two halves of what the borrow's name stands for
     pub opens_record : K → Soaks G → (T : Declared) (L : laws.Laws T) (h : T.D) (b o : ℕ)
-        → (Is (row T) h (laws.vals T L h) → Seq K 𝓛 (‵ (cell_at full_share (row T).mir (laws.vals T L h) b o) ∷ ‵ ((row T).own h (laws.vals T L h))
+        → (Is (row T) h (laws.vals T L h) → Seq K 𝓛 (‵ (cell_at full_share (row T).mir (laws.vals T L h) b o) ∷ ‵ ((row T).own_val h (laws.vals T L h))
         ∷ ‵ (fobor κ q (Body (mem (row T)) b o γ)) ∷ ‵ (fobs γ ((row T).coded.code h)) ∷ ‵ (fauth γ ((row T).coded.code h)) ∷ Γ) G)
         → Seq K 𝓛 (‵ (fobs γ ((row T).coded.code h)) ∷ ‵ (fbor κ (Body (mem (row T)) b o γ)) ∷ ‵ (flft κ q) ∷ Γ) G
     opens_record t z T L h b o k =

@@ -1,5 +1,4 @@
 use native.Mathlib.Omega.{arith}
-use Prim.Native.Nat.{◌-◌}
 use mathlib.Core.Path.{ap, ◌∙◌}
 use Rattle.interleave.specs.Layout.{empty_from}
 use Rattle.interleave.proofs.Layouts.{wrapped_lt, filled_first, filled_next, filled_last}

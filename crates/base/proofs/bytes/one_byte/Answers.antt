@@ -1,5 +1,4 @@
 use native.Mathlib.Omega.{arith}
-use Prim.Native.Nat.{◌-◌}
 use Rattle.base.proofs.Ones.{seen_none, seen_more, seen_all}
 use Rattle.base.proofs.bytes.one_byte.Goals as goal
 

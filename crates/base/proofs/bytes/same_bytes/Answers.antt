@@ -1,5 +1,4 @@
 use native.Mathlib.Omega.{arith}
-use Prim.Native.Nat.{◌-◌}
 use Rattle.base.proofs.Sames.{compared_none, compared_stop, compared_more, compared_all}
 use Rattle.base.proofs.bytes.same_bytes.Goals as goal
 

@@ -1,7 +1,6 @@
 use mathlib.Core.Path.{sym, ◌∙◌}
 use borrow.Author.Tests.{ltb-true, ltb-false}
 use native.Mathlib.Omega.{arith}
-use Prim.Native.Nat.{◌-◌}
 use Rattle.track.specs.State.{partner_of}
 use Rattle.geometry.proofs.Sizes.{next_in, next_less}
 use Rattle.formatter.proofs.Sounds.{remade_none, remade_more, remade_all}

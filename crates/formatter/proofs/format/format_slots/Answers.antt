@@ -1,6 +1,5 @@
 use native.Mathlib.Omega.{arith}
 use mathlib.Core.Path.{◌∙◌}
-use Prim.Native.Nat.{◌-◌}
 use Rattle.formatter.proofs.Steps.{walked_none, walked_length, walked_more, walked_all}
 use Rattle.formatter.proofs.format.format_slots.Goals as goal
 

@@ -1,4 +1,3 @@
-use Prim.Native.Nat.{◌-◌}
 use Rattle.base.proofs.Firsts.{sought_none}
 use Rattle.keeping.proofs.Notes.{has_miss, has_more, has_all}
 use Rattle.keeping.proofs.slots.missing_code.Goals as goal

@@ -21,23 +21,40 @@ returns-then-i-eq0 c =
     step_id _ c.args.from c.args.to _ _ _ _ _ c.if-copies-i.false c.if-i-eq0.true c.write_id-then-i-eq0.ensures
 
 pub overflow_cast-j : goal.overflow_cast-j
-overflow_cast-j c = omega (arith, (let sector : (get_or c.args.map.now (c.args.i / 2) 0 < c.args.p.sectors) = 
-    c.requires.3.below (c.args.i / 2) (omega (arith, c.if-copies-i.false)) in sector))
+overflow_cast-j c = omega (
+  arith,
+  (let sector : (get_or c.args.map.now (c.args.i / 2) 0 < c.args.p.sectors) =
+      c.requires.3.below (c.args.i / 2) (omega (arith, c.if-copies-i.false)) in sector),
+)
 
 pub bounds-slots-s : goal.bounds-slots-s
 bounds-slots-s c =
-    omega (arith, (let sector : (get_or c.args.map.now (c.args.i / 2) 0 < c.args.p.sectors) = 
-    c.requires.3.below (c.args.i / 2) (omega (arith, c.if-copies-i.false)) in sector), c.requires.4.long, c.requires.0.within.sectors_most)
+    omega (
+      arith,
+      (let sector : (get_or c.args.map.now (c.args.i / 2) 0 < c.args.p.sectors) =
+          c.requires.3.below (c.args.i / 2) (omega (arith, c.if-copies-i.false)) in sector),
+      c.requires.4.long,
+      c.requires.0.within.sectors_most,
+    )
 
 pub overflow_cast-j-2 : goal.overflow_cast-j-2
 overflow_cast-j-2 c =
-    omega (arith, c.requires.4.below _ (let sector : (get_or c.args.map.now (c.args.i / 2) 0 < c.args.p.sectors) = 
-    c.requires.3.below (c.args.i / 2) (omega (arith, c.if-copies-i.false)) in sector), c.requires.0.within.sectors_most)
+    omega (
+      arith,
+      c.requires.4.below _ (let sector : (get_or c.args.map.now (c.args.i / 2) 0 < c.args.p.sectors) =
+          c.requires.3.below (c.args.i / 2) (omega (arith, c.if-copies-i.false)) in sector),
+      c.requires.0.within.sectors_most,
+    )
 
 pub write_body-requires : goal.write_body-requires
-write_body-requires c =
-    (c.requires.0, c.requires.1, c.requires.4.below _ (let sector : (get_or c.args.map.now (c.args.i / 2) 0 < c.args.p.sectors) = 
-    c.requires.3.below (c.args.i / 2) (omega (arith, c.if-copies-i.false)) in sector), c.requires.2, omega (arith, c.if-copies-i.false))
+write_body-requires c = (
+  c.requires.0,
+  c.requires.1,
+  c.requires.4.below _ (let sector : (get_or c.args.map.now (c.args.i / 2) 0 < c.args.p.sectors) =
+      c.requires.3.below (c.args.i / 2) (omega (arith, c.if-copies-i.false)) in sector),
+  c.requires.2,
+  omega (arith, c.if-copies-i.false),
+)
 
 pub returns : goal.returns
 returns c =

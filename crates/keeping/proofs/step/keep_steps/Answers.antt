@@ -1,5 +1,4 @@
 use native.Mathlib.Omega.{arith}
-use Prim.Native.Nat.{◌-◌}
 use Rattle.keeping.proofs.Stepping.{located_noting, stepped_none, stepped_fits, stepped_more, stepped_length, stepped_all}
 use Rattle.keeping.proofs.step.keep_steps.Goals as goal
 

@@ -6,18 +6,33 @@ use Rattle.keeping.proofs.Stores.{slot_inside, data_stored}
 use Rattle.keeping.proofs.step.write_body.Goals as goal
 
 pub overflow_add-source : goal.overflow_add-source
-overflow_add-source c = omega (arith, (let source : c.slot_start-source.result + slot_size c.args.p ≤ length c.args.image.now = 
-    omega (arith, c.slot_start-source.ensures, slot_inside c.args.p c.args.from c.args.j _ c.requires.1 c.requires.2 c.requires.0.long) in source))
+overflow_add-source c = omega (
+  arith,
+  (let source : c.slot_start-source.result + slot_size c.args.p ≤ length c.args.image.now =
+      omega (arith, c.slot_start-source.ensures, slot_inside c.args.p c.args.from c.args.j _ c.requires.1 c.requires.2 c.requires.0.long) in source),
+)
 
 pub overflow_add-place : goal.overflow_add-place
-overflow_add-place c = omega (arith, (let place : c.slot_start-place.result + slot_size c.args.p ≤ length c.args.image.now = 
-    omega (arith, c.slot_start-place.ensures, slot_inside c.args.p c.args.to c.args.k _ c.requires.3 c.requires.4 c.requires.0.long) in place))
+overflow_add-place c = omega (
+  arith,
+  (let place : c.slot_start-place.result + slot_size c.args.p ≤ length c.args.image.now =
+      omega (arith, c.slot_start-place.ensures, slot_inside c.args.p c.args.to c.args.k _ c.requires.3 c.requires.4 c.requires.0.long) in place),
+)
 
 pub copy_within-requires : goal.copy_within-requires
-copy_within-requires c =
-    (omega (arith, (let source : c.slot_start-source.result + slot_size c.args.p ≤ length c.args.image.now = 
-    omega (arith, c.slot_start-source.ensures, slot_inside c.args.p c.args.from c.args.j _ c.requires.1 c.requires.2 c.requires.0.long) in source)), omega (arith, (let place : c.slot_start-place.result + slot_size c.args.p ≤ length c.args.image.now = 
-    omega (arith, c.slot_start-place.ensures, slot_inside c.args.p c.args.to c.args.k _ c.requires.3 c.requires.4 c.requires.0.long) in place)), c.requires.0.within.size_most)
+copy_within-requires c = (
+  omega (
+    arith,
+    (let source : c.slot_start-source.result + slot_size c.args.p ≤ length c.args.image.now =
+        omega (arith, c.slot_start-source.ensures, slot_inside c.args.p c.args.from c.args.j _ c.requires.1 c.requires.2 c.requires.0.long) in source),
+  ),
+  omega (
+    arith,
+    (let place : c.slot_start-place.result + slot_size c.args.p ≤ length c.args.image.now =
+        omega (arith, c.slot_start-place.ensures, slot_inside c.args.p c.args.to c.args.k _ c.requires.3 c.requires.4 c.requires.0.long) in place),
+  ),
+  c.requires.0.within.size_most,
+)
 
 pub returns : goal.returns
 returns c =

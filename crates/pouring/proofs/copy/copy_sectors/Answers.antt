@@ -4,8 +4,7 @@ use Rattle.pouring.proofs.copy.copy_sectors.Goals as goal
 
 pub keep_done-requires : goal.keep_done-requires
 keep_done-requires c =
-    let ready = c.requires in
-    (
+    let ready = c.requires in (
       ready.route.target_there,
       went_fits _ _ _ ready.route.fitting _ (images_of c.copy_through-copied.new.image0 c.copy_through-copied.new.image1 c.copy_through-copied.new.image2 c.copy_through-copied.new.image3) c.copy_through-copied.ensures,
       went_on _ _ _ ready.route.fitting _ (images_of c.copy_through-copied.new.image0 c.copy_through-copied.new.image1 c.copy_through-copied.new.image2 c.copy_through-copied.new.image3) c.copy_through-copied.ensures,

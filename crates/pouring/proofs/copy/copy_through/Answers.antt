@@ -1,5 +1,4 @@
 use mathlib.Core.Path.{refl, sym, ◌∙◌}
-use Prim.Native.Nat.{◌-◌}
 use Rattle.copying.specs.Images.{images_of}
 use Rattle.pouring.proofs.Loops.{turning_none, turning_more, turning_less, last_turn, turning_all}
 use Rattle.pouring.proofs.copy.copy_through.Goals as goal

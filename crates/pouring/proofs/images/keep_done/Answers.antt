@@ -14,13 +14,12 @@ pub slice_bounds-read_on-end : goal.slice_bounds-read_on-end
 slice_bounds-read_on-end c = omega (arith, c.requires.1.within.size_most, c.requires.3)
 
 pub read_on-requires : goal.read_on-requires
-read_on-requires c =
-    (
-      c.requires.0,
-      c.requires.1,
-      last_on _ _ _ _ c.if-done-eq0.false c.further.ensures c.requires.2,
-      simp (length-take, length-drop) (omega (arith, c.requires.1.within.size_most, c.requires.3)),
-    )
+read_on-requires c = (
+  c.requires.0,
+  c.requires.1,
+  last_on _ _ _ _ c.if-done-eq0.false c.further.ensures c.requires.2,
+  simp (length-take, length-drop) (omega (arith, c.requires.1.within.size_most, c.requires.3)),
+)
 
 pub returns : goal.returns
 returns c =

@@ -22,21 +22,26 @@ pub slice_bounds-read_on-end : goal.slice_bounds-read_on-end
 slice_bounds-read_on-end c = omega (arith, (let room : c.args.s.held + c.chunk-m.result * c.args.r.p.size ≤ scratch_length = turn_fits _ _ _ _ _ c.requires.0 c.requires.1 _ c.chunk-m.ensures c.requires.2 in room), c.requires.0.scratch_long)
 
 pub read_on-source-requires : goal.read_on-source-requires
-read_on-source-requires c =
-    (
-      c.requires.0.source_there,
-      c.requires.0.fitting.source_fits,
-      on_source _ _ _ _ _ c.requires.0 c.requires.1 _ c.chunk-m.ensures c.requires.2 _ c.further-a.ensures,
-      simp (length-take, length-drop) (omega (arith, (let room : c.args.s.held + c.chunk-m.result * c.args.r.p.size ≤ scratch_length = turn_fits _ _ _ _ _ c.requires.0 c.requires.1 _ c.chunk-m.ensures c.requires.2 in room), c.requires.0.scratch_long)),
-    )
+read_on-source-requires c = (
+  c.requires.0.source_there,
+  c.requires.0.fitting.source_fits,
+  on_source _ _ _ _ _ c.requires.0 c.requires.1 _ c.chunk-m.ensures c.requires.2 _ c.further-a.ensures,
+  simp (length-take, length-drop) (omega (arith, (let room : c.args.s.held + c.chunk-m.result * c.args.r.p.size ≤ scratch_length = turn_fits _ _ _ _ _ c.requires.0 c.requires.1 _ c.chunk-m.ensures c.requires.2 in room), c.requires.0.scratch_long)),
+)
 
 pub overflow_mul-filled : goal.overflow_mul-filled
-overflow_mul-filled c = omega (arith, (let within : c.args.s.held + c.read_on-source.result.sectors * c.args.r.p.size ≤ scratch_length = read_fits _ _ _ _ _ c.requires.0 c.requires.1 _ c.chunk-m.ensures c.requires.2 _ (let few : c.read_on-source.result.sectors ≤ c.chunk-m.result = 
-    read_most _ _ _ _ _ c.requires.0 c.requires.1 c.requires.2 _ c.chunk-m.ensures _ c.further-a.ensures _ _ c.read_on-source.ensures in few) in within))
+overflow_mul-filled c = omega (
+  arith,
+  (let within : c.args.s.held + c.read_on-source.result.sectors * c.args.r.p.size ≤ scratch_length = read_fits _ _ _ _ _ c.requires.0 c.requires.1 _ c.chunk-m.ensures c.requires.2 _ (let few : c.read_on-source.result.sectors ≤ c.chunk-m.result =
+      read_most _ _ _ _ _ c.requires.0 c.requires.1 c.requires.2 _ c.chunk-m.ensures _ c.further-a.ensures _ _ c.read_on-source.ensures in few) in within),
+)
 
 pub overflow_add-filled : goal.overflow_add-filled
-overflow_add-filled c = omega (arith, (let within : c.args.s.held + c.read_on-source.result.sectors * c.args.r.p.size ≤ scratch_length = read_fits _ _ _ _ _ c.requires.0 c.requires.1 _ c.chunk-m.ensures c.requires.2 _ (let few : c.read_on-source.result.sectors ≤ c.chunk-m.result = 
-    read_most _ _ _ _ _ c.requires.0 c.requires.1 c.requires.2 _ c.chunk-m.ensures _ c.further-a.ensures _ _ c.read_on-source.ensures in few) in within))
+overflow_add-filled c = omega (
+  arith,
+  (let within : c.args.s.held + c.read_on-source.result.sectors * c.args.r.p.size ≤ scratch_length = read_fits _ _ _ _ _ c.requires.0 c.requires.1 _ c.chunk-m.ensures c.requires.2 _ (let few : c.read_on-source.result.sectors ≤ c.chunk-m.result =
+      read_most _ _ _ _ _ c.requires.0 c.requires.1 c.requires.2 _ c.chunk-m.ensures _ c.further-a.ensures _ _ c.read_on-source.ensures in few) in within),
+)
 
 pub nonzero_div-full : goal.nonzero_div-full
 nonzero_div-full c = omega (arith, c.requires.0.fitting.target_some)
@@ -44,30 +49,44 @@ nonzero_div-full c = omega (arith, c.requires.0.fitting.target_some)
 pub slice_bounds-store_sectors-end : goal.slice_bounds-store_sectors-end
 slice_bounds-store_sectors-end c =
     let long = lent_long _ _ _ _ _ c.requires.0 c.requires.1 c.requires.2 _ c.chunk-m.ensures _ c.further-a.ensures _ _ c.read_on-source.ensures in
-    omega (arith, long, (let within : c.args.s.held + c.read_on-source.result.sectors * c.args.r.p.size ≤ scratch_length = read_fits _ _ _ _ _ c.requires.0 c.requires.1 _ c.chunk-m.ensures c.requires.2 _ (let few : c.read_on-source.result.sectors ≤ c.chunk-m.result = 
-    read_most _ _ _ _ _ c.requires.0 c.requires.1 c.requires.2 _ c.chunk-m.ensures _ c.further-a.ensures _ _ c.read_on-source.ensures in few) in within))
-
-pub store_sectors-target-requires : goal.store_sectors-target-requires
-store_sectors-target-requires c =
-    (
-      c.requires.0.target_there,
-      c.requires.0.fitting.target_fits,
-      stores_on _ _ _ _ _ c.requires.0 c.requires.1 c.requires.2 _ c.chunk-m.ensures _ c.further-a.ensures _ _ c.read_on-source.ensures,
-      stores_given _ _ _ _ _ c.requires.0 c.requires.1 c.requires.2 _ c.chunk-m.ensures _ c.further-a.ensures _ _ c.read_on-source.ensures,
+    omega (
+      arith,
+      long,
+      (let within : c.args.s.held + c.read_on-source.result.sectors * c.args.r.p.size ≤ scratch_length = read_fits _ _ _ _ _ c.requires.0 c.requires.1 _ c.chunk-m.ensures c.requires.2 _ (let few : c.read_on-source.result.sectors ≤ c.chunk-m.result =
+          read_most _ _ _ _ _ c.requires.0 c.requires.1 c.requires.2 _ c.chunk-m.ensures _ c.further-a.ensures _ _ c.read_on-source.ensures in few) in within),
     )
 
+pub store_sectors-target-requires : goal.store_sectors-target-requires
+store_sectors-target-requires c = (
+  c.requires.0.target_there,
+  c.requires.0.fitting.target_fits,
+  stores_on _ _ _ _ _ c.requires.0 c.requires.1 c.requires.2 _ c.chunk-m.ensures _ c.further-a.ensures _ _ c.read_on-source.ensures,
+  stores_given _ _ _ _ _ c.requires.0 c.requires.1 c.requires.2 _ c.chunk-m.ensures _ c.further-a.ensures _ _ c.read_on-source.ensures,
+)
+
 pub overflow_mul-used : goal.overflow_mul-used
-overflow_mul-used c = omega (arith, (let used : (c.args.s.held + c.read_on-source.result.sectors * c.args.r.p.size) / c.args.r.q.size * c.args.r.q.size
-    ≤ c.args.s.held + c.read_on-source.result.sectors * c.args.r.p.size = div-mul-le_self _ _ in used), (let within : c.args.s.held + c.read_on-source.result.sectors * c.args.r.p.size ≤ scratch_length = read_fits _ _ _ _ _ c.requires.0 c.requires.1 _ c.chunk-m.ensures c.requires.2 _ (let few : c.read_on-source.result.sectors ≤ c.chunk-m.result = 
-    read_most _ _ _ _ _ c.requires.0 c.requires.1 c.requires.2 _ c.chunk-m.ensures _ c.further-a.ensures _ _ c.read_on-source.ensures in few) in within))
+overflow_mul-used c = omega (
+  arith,
+  (let used : (c.args.s.held + c.read_on-source.result.sectors * c.args.r.p.size) / c.args.r.q.size * c.args.r.q.size
+      ≤ c.args.s.held + c.read_on-source.result.sectors * c.args.r.p.size = div-mul-le_self _ _ in used),
+  (let within : c.args.s.held + c.read_on-source.result.sectors * c.args.r.p.size ≤ scratch_length = read_fits _ _ _ _ _ c.requires.0 c.requires.1 _ c.chunk-m.ensures c.requires.2 _ (let few : c.read_on-source.result.sectors ≤ c.chunk-m.result =
+      read_most _ _ _ _ _ c.requires.0 c.requires.1 c.requires.2 _ c.chunk-m.ensures _ c.further-a.ensures _ _ c.read_on-source.ensures in few) in within),
+)
 
 pub move_front-requires : goal.move_front-requires
 move_front-requires c =
-    let long = lent_long _ _ _ _ _ c.requires.0 c.requires.1 c.requires.2 _ c.chunk-m.ensures _ c.further-a.ensures _ _ c.read_on-source.ensures in
-    ((let used : (c.args.s.held + c.read_on-source.result.sectors * c.args.r.p.size) / c.args.r.q.size * c.args.r.q.size
-    ≤ c.args.s.held + c.read_on-source.result.sectors * c.args.r.p.size = div-mul-le_self _ _ in used), omega (arith, long, (let within : c.args.s.held + c.read_on-source.result.sectors * c.args.r.p.size ≤ scratch_length = read_fits _ _ _ _ _ c.requires.0 c.requires.1 _ c.chunk-m.ensures c.requires.2 _ (let few : c.read_on-source.result.sectors ≤ c.chunk-m.result = 
-    read_most _ _ _ _ _ c.requires.0 c.requires.1 c.requires.2 _ c.chunk-m.ensures _ c.further-a.ensures _ _ c.read_on-source.ensures in few) in within)), left_few _ _ _ _ _ c.requires.0 c.requires.1 _ c.chunk-m.ensures c.requires.2 _ (let few : c.read_on-source.result.sectors ≤ c.chunk-m.result = 
-    read_most _ _ _ _ _ c.requires.0 c.requires.1 c.requires.2 _ c.chunk-m.ensures _ c.further-a.ensures _ _ c.read_on-source.ensures in few))
+    let long = lent_long _ _ _ _ _ c.requires.0 c.requires.1 c.requires.2 _ c.chunk-m.ensures _ c.further-a.ensures _ _ c.read_on-source.ensures in (
+      (let used : (c.args.s.held + c.read_on-source.result.sectors * c.args.r.p.size) / c.args.r.q.size * c.args.r.q.size
+          ≤ c.args.s.held + c.read_on-source.result.sectors * c.args.r.p.size = div-mul-le_self _ _ in used),
+      omega (
+        arith,
+        long,
+        (let within : c.args.s.held + c.read_on-source.result.sectors * c.args.r.p.size ≤ scratch_length = read_fits _ _ _ _ _ c.requires.0 c.requires.1 _ c.chunk-m.ensures c.requires.2 _ (let few : c.read_on-source.result.sectors ≤ c.chunk-m.result =
+            read_most _ _ _ _ _ c.requires.0 c.requires.1 c.requires.2 _ c.chunk-m.ensures _ c.further-a.ensures _ _ c.read_on-source.ensures in few) in within),
+      ),
+      left_few _ _ _ _ _ c.requires.0 c.requires.1 _ c.chunk-m.ensures c.requires.2 _ (let few : c.read_on-source.result.sectors ≤ c.chunk-m.result =
+          read_most _ _ _ _ _ c.requires.0 c.requires.1 c.requires.2 _ c.chunk-m.ensures _ c.further-a.ensures _ _ c.read_on-source.ensures in few),
+    )
 
 pub overflow_sub-filled : goal.overflow_sub-filled
 overflow_sub-filled c = (let used : (c.args.s.held + c.read_on-source.result.sectors * c.args.r.p.size) / c.args.r.q.size * c.args.r.q.size
@@ -79,12 +98,12 @@ after_turn-requires c =
       c.requires.0.fitting.source_some,
       c.requires.0.fitting.source_fits.within.size_most,
       c.requires.0.fitting.target_fits.within.size_most,
-      read_few _ _ _ _ _ c.requires.0 c.requires.1 _ c.chunk-m.ensures c.requires.2 _ (let few : c.read_on-source.result.sectors ≤ c.chunk-m.result = 
-    read_most _ _ _ _ _ c.requires.0 c.requires.1 c.requires.2 _ c.chunk-m.ensures _ c.further-a.ensures _ _ c.read_on-source.ensures in few),
-      done_few _ _ _ _ _ c.requires.0 c.requires.1 _ c.chunk-m.ensures c.requires.2 _ (let few : c.read_on-source.result.sectors ≤ c.chunk-m.result = 
-    read_most _ _ _ _ _ c.requires.0 c.requires.1 c.requires.2 _ c.chunk-m.ensures _ c.further-a.ensures _ _ c.read_on-source.ensures in few) _ most,
-      done_bytes _ _ _ _ _ c.requires.0 c.requires.1 _ c.chunk-m.ensures c.requires.2 _ (let few : c.read_on-source.result.sectors ≤ c.chunk-m.result = 
-    read_most _ _ _ _ _ c.requires.0 c.requires.1 c.requires.2 _ c.chunk-m.ensures _ c.further-a.ensures _ _ c.read_on-source.ensures in few) _ most,
+      read_few _ _ _ _ _ c.requires.0 c.requires.1 _ c.chunk-m.ensures c.requires.2 _ (let few : c.read_on-source.result.sectors ≤ c.chunk-m.result =
+          read_most _ _ _ _ _ c.requires.0 c.requires.1 c.requires.2 _ c.chunk-m.ensures _ c.further-a.ensures _ _ c.read_on-source.ensures in few),
+      done_few _ _ _ _ _ c.requires.0 c.requires.1 _ c.chunk-m.ensures c.requires.2 _ (let few : c.read_on-source.result.sectors ≤ c.chunk-m.result =
+          read_most _ _ _ _ _ c.requires.0 c.requires.1 c.requires.2 _ c.chunk-m.ensures _ c.further-a.ensures _ _ c.read_on-source.ensures in few) _ most,
+      done_bytes _ _ _ _ _ c.requires.0 c.requires.1 _ c.chunk-m.ensures c.requires.2 _ (let few : c.read_on-source.result.sectors ≤ c.chunk-m.result =
+          read_most _ _ _ _ _ c.requires.0 c.requires.1 c.requires.2 _ c.chunk-m.ensures _ c.further-a.ensures _ _ c.read_on-source.ensures in few) _ most,
     )
 
 pub shape_of-scratch : goal.shape_of-scratch

@@ -1,5 +1,5 @@
 use mathlib.Core.Path.{refl}
-use Prim.Native.Nat.{◌+◌, ◌-◌, ◌*◌, ◌≤◌}
+use Prim.Native.Nat.{◌+◌, ◌*◌, ◌≤◌}
 use native.Mathlib.Omega.{arith}
 use lib.ListN.{length, length-take, length-drop}
 use Rattle.geometry.proofs.Sizes.{sectors_most}
@@ -27,31 +27,39 @@ pub further-here-requires : goal.further-here-requires
 further-here-requires c = omega (arith, (let address : c.args.a.0 + c.loop-i.i ≤ 229375 = omega (arith, c.requires.1, c.loop-i-test.true, sectors_most c.args.p c.requires.0.within) in address))
 
 pub overflow_mul-end : goal.overflow_mul-end
-overflow_mul-end c = omega (arith, (let room : c.loop-i.at + c.sectors_here-m.result * c.args.p.size
-    ≤ length c.loop-i.area = 
-    reading_room _ _ _ _ _ _ _ _ c.loop-i.invariant c.requires.0 c.requires.1 c.requires.2 _ (let left : c.loop-i.i + c.sectors_here-m.result ≤ c.args.n = omega (arith, c.loop-i-test.true, c.sectors_here-m.ensures.2) in left) in room))
+overflow_mul-end c = omega (
+  arith,
+  (let room : c.loop-i.at + c.sectors_here-m.result * c.args.p.size
+      ≤ length c.loop-i.area =
+      reading_room _ _ _ _ _ _ _ _ c.loop-i.invariant c.requires.0 c.requires.1 c.requires.2 _ (let left : c.loop-i.i + c.sectors_here-m.result ≤ c.args.n = omega (arith, c.loop-i-test.true, c.sectors_here-m.ensures.2) in left) in room),
+)
 
 pub overflow_add-end : goal.overflow_add-end
-overflow_add-end c = omega (arith, (let room : c.loop-i.at + c.sectors_here-m.result * c.args.p.size
-    ≤ length c.loop-i.area = 
-    reading_room _ _ _ _ _ _ _ _ c.loop-i.invariant c.requires.0 c.requires.1 c.requires.2 _ (let left : c.loop-i.i + c.sectors_here-m.result ≤ c.args.n = omega (arith, c.loop-i-test.true, c.sectors_here-m.ensures.2) in left) in room))
+overflow_add-end c = omega (
+  arith,
+  (let room : c.loop-i.at + c.sectors_here-m.result * c.args.p.size
+      ≤ length c.loop-i.area =
+      reading_room _ _ _ _ _ _ _ _ c.loop-i.invariant c.requires.0 c.requires.1 c.requires.2 _ (let left : c.loop-i.i + c.sectors_here-m.result ≤ c.args.n = omega (arith, c.loop-i-test.true, c.sectors_here-m.ensures.2) in left) in room),
+)
 
 pub slice_bounds-read_part-end : goal.slice_bounds-read_part-end
 slice_bounds-read_part-end c = (let room : c.loop-i.at + c.sectors_here-m.result * c.args.p.size
-    ≤ length c.loop-i.area = 
+    ≤ length c.loop-i.area =
     reading_room _ _ _ _ _ _ _ _ c.loop-i.invariant c.requires.0 c.requires.1 c.requires.2 _ (let left : c.loop-i.i + c.sectors_here-m.result ≤ c.args.n = omega (arith, c.loop-i-test.true, c.sectors_here-m.ensures.2) in left) in room)
 
 pub read_part-part-requires : goal.read_part-part-requires
-read_part-part-requires c =
-    (
-      c.requires.0,
-      further_on_drive c.args.p _ _ _ _ c.requires.1 c.loop-i-test.true c.further-here.ensures,
-      c.sectors_here-m.ensures.1,
-      c.sectors_here-m.ensures.3,
-      simp (length-take, length-drop) (omega (arith, (let room : c.loop-i.at + c.sectors_here-m.result * c.args.p.size
-    ≤ length c.loop-i.area = 
-    reading_room _ _ _ _ _ _ _ _ c.loop-i.invariant c.requires.0 c.requires.1 c.requires.2 _ (let left : c.loop-i.i + c.sectors_here-m.result ≤ c.args.n = omega (arith, c.loop-i-test.true, c.sectors_here-m.ensures.2) in left) in room))),
-    )
+read_part-part-requires c = (
+  c.requires.0,
+  further_on_drive c.args.p _ _ _ _ c.requires.1 c.loop-i-test.true c.further-here.ensures,
+  c.sectors_here-m.ensures.1,
+  c.sectors_here-m.ensures.3,
+  simp (length-take, length-drop) (omega (
+    arith,
+    (let room : c.loop-i.at + c.sectors_here-m.result * c.args.p.size
+        ≤ length c.loop-i.area =
+        reading_room _ _ _ _ _ _ _ _ c.loop-i.invariant c.requires.0 c.requires.1 c.requires.2 _ (let left : c.loop-i.i + c.sectors_here-m.result ≤ c.args.n = omega (arith, c.loop-i-test.true, c.sectors_here-m.ensures.2) in left) in room),
+  )),
+)
 
 pub overflow_add-i : goal.overflow_add-i
 overflow_add-i c =

@@ -1,4 +1,4 @@
-use Prim.Native.Nat.{◌+◌, ◌-◌, ◌≤◌, ◌<◌}
+use Prim.Native.Nat.{◌+◌, ◌≤◌, ◌<◌}
 use mathlib.Core.Path.{sym}
 use native.Mathlib.Omega.{arith}
 use lib.ListN.{length, get_or, length-take, length-drop}
@@ -20,35 +20,44 @@ pub overflow_add-end : goal.overflow_add-end
 overflow_add-end c = omega (arith, (let room : c.loop-sector.at + c.args.p.size ≤ length c.loop-sector.places = reading_room _ _ _ _ _ _ _ _ _ _ c.loop-sector.invariant c.requires c.loop-sector-test.true in room))
 
 pub overflow_cast-k : goal.overflow_cast-k
-overflow_cast-k c = omega (arith, (let there : get_or c.look_for-looked.new.slots
-    c.loop-sector.sector 0
-    < c.args.p.sectors = 
-    reading_slot _ _ _ _ _ _ _ _ _ _ c.loop-sector.invariant c.requires c.loop-sector-test.true
-    _ _ c.look_for-looked.ensures c.if-k.false in there))
+overflow_cast-k c = omega (
+  arith,
+  (let there : get_or c.look_for-looked.new.slots
+      c.loop-sector.sector 0
+      < c.args.p.sectors =
+      reading_slot _ _ _ _ _ _ _ _ _ _ c.loop-sector.invariant c.requires c.loop-sector-test.true
+      _ _ c.look_for-looked.ensures c.if-k.false in there),
+)
 
 pub slot_at-slot-requires : goal.slot_at-slot-requires
-slot_at-slot-requires c = (c.requires.0, c.requires.1, (let there : get_or c.look_for-looked.new.slots
-    c.loop-sector.sector 0
-    < c.args.p.sectors = 
-    reading_slot _ _ _ _ _ _ _ _ _ _ c.loop-sector.invariant c.requires c.loop-sector-test.true
-    _ _ c.look_for-looked.ensures c.if-k.false in there))
+slot_at-slot-requires c = (
+  c.requires.0,
+  c.requires.1,
+  (let there : get_or c.look_for-looked.new.slots
+      c.loop-sector.sector 0
+      < c.args.p.sectors =
+      reading_slot _ _ _ _ _ _ _ _ _ _ c.loop-sector.invariant c.requires c.loop-sector-test.true
+      _ _ c.look_for-looked.ensures c.if-k.false in there),
+)
 
 pub slice_bounds-move_bytes-end : goal.slice_bounds-move_bytes-end
 slice_bounds-move_bytes-end c = (let room : c.loop-sector.at + c.args.p.size ≤ length c.loop-sector.places = reading_room _ _ _ _ _ _ _ _ _ _ c.loop-sector.invariant c.requires c.loop-sector-test.true in room)
 
 pub slot_data-requires : goal.slot_data-requires
-slot_data-requires c =
-    (c.requires.0, slot_long _ _ c.requires.1 _ (let there : get_or c.look_for-looked.new.slots
-    c.loop-sector.sector 0
-    < c.args.p.sectors = 
-    reading_slot _ _ _ _ _ _ _ _ _ _ c.loop-sector.invariant c.requires c.loop-sector-test.true
-    _ _ c.look_for-looked.ensures c.if-k.false in there) _ c.slot_at-slot.ensures)
+slot_data-requires c = (
+  c.requires.0,
+  slot_long _ _ c.requires.1 _ (let there : get_or c.look_for-looked.new.slots
+      c.loop-sector.sector 0
+      < c.args.p.sectors =
+      reading_slot _ _ _ _ _ _ _ _ _ _ c.loop-sector.invariant c.requires c.loop-sector-test.true
+      _ _ c.look_for-looked.ensures c.if-k.false in there) _ c.slot_at-slot.ensures,
+)
 
 pub move_bytes-requires : goal.move_bytes-requires
 move_bytes-requires c =
     let copied = data_long _ _ c.requires.1 _ (let there : get_or c.look_for-looked.new.slots
     c.loop-sector.sector 0
-    < c.args.p.sectors = 
+    < c.args.p.sectors =
     reading_slot _ _ _ _ _ _ _ _ _ _ c.loop-sector.invariant c.requires c.loop-sector-test.true
     _ _ c.look_for-looked.ensures c.if-k.false in there) _ c.slot_at-slot.ensures _ c.slot_data.ensures in
     simp (length-take, length-drop, copied) (omega (arith, (let room : c.loop-sector.at + c.args.p.size ≤ length c.loop-sector.places = reading_room _ _ _ _ _ _ _ _ _ _ c.loop-sector.invariant c.requires c.loop-sector-test.true in room)))

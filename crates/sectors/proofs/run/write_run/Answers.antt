@@ -1,4 +1,4 @@
-use Prim.Native.Nat.{◌+◌, ◌-◌, ◌≤◌, ◌<◌}
+use Prim.Native.Nat.{◌+◌, ◌≤◌, ◌<◌}
 use mathlib.Core.Path.{sym, ◌∙◌}
 use native.Mathlib.Omega.{arith}
 use lib.ListN.{length, get_or, length-take, length-drop}
@@ -25,22 +25,29 @@ pub overflow_add-end : goal.overflow_add-end
 overflow_add-end c = omega (arith, (let room : c.loop-sector.at + c.args.p.size ≤ length c.args.given.now = writing_room _ _ _ _ _ _ _ _ _ _ c.loop-sector.invariant c.requires c.loop-sector-test.true in room))
 
 pub overflow_cast-k : goal.overflow_cast-k
-overflow_cast-k c = omega (arith, (let there : get_or c.look_for-looked.new.slots
-    c.loop-sector.sector 0
-    < c.args.p.sectors = 
-    writing_slot _ _ _ _ _ _ _ _ _ _ c.loop-sector.invariant c.requires c.loop-sector-test.true
-    _ _ c.look_for-looked.ensures c.if-k.false in there))
+overflow_cast-k c = omega (
+  arith,
+  (let there : get_or c.look_for-looked.new.slots
+      c.loop-sector.sector 0
+      < c.args.p.sectors =
+      writing_slot _ _ _ _ _ _ _ _ _ _ c.loop-sector.invariant c.requires c.loop-sector-test.true
+      _ _ c.look_for-looked.ensures c.if-k.false in there),
+)
 
 pub slice_bounds-write_data-end : goal.slice_bounds-write_data-end
 slice_bounds-write_data-end c = (let room : c.loop-sector.at + c.args.p.size ≤ length c.args.given.now = writing_room _ _ _ _ _ _ _ _ _ _ c.loop-sector.invariant c.requires c.loop-sector-test.true in room)
 
 pub write_data-requires : goal.write_data-requires
-write_data-requires c =
-    (c.requires.0, c.loop-sector.invariant.len ∙ c.requires.1, (let there : get_or c.look_for-looked.new.slots
-    c.loop-sector.sector 0
-    < c.args.p.sectors = 
-    writing_slot _ _ _ _ _ _ _ _ _ _ c.loop-sector.invariant c.requires c.loop-sector-test.true
-    _ _ c.look_for-looked.ensures c.if-k.false in there), simp (length-take, length-drop) (omega (arith, (let room : c.loop-sector.at + c.args.p.size ≤ length c.args.given.now = writing_room _ _ _ _ _ _ _ _ _ _ c.loop-sector.invariant c.requires c.loop-sector-test.true in room))))
+write_data-requires c = (
+  c.requires.0,
+  c.loop-sector.invariant.len ∙ c.requires.1,
+  (let there : get_or c.look_for-looked.new.slots
+      c.loop-sector.sector 0
+      < c.args.p.sectors =
+      writing_slot _ _ _ _ _ _ _ _ _ _ c.loop-sector.invariant c.requires c.loop-sector-test.true
+      _ _ c.look_for-looked.ensures c.if-k.false in there),
+  simp (length-take, length-drop) (omega (arith, (let room : c.loop-sector.at + c.args.p.size ≤ length c.args.given.now = writing_room _ _ _ _ _ _ _ _ _ _ c.loop-sector.invariant c.requires c.loop-sector-test.true in room))),
+)
 
 pub loop-sector-preserved : goal.loop-sector-preserved
 loop-sector-preserved c =

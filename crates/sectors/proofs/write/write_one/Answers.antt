@@ -13,15 +13,22 @@ find_sector-found-requires c =
     (c.requires.0, track_below _ c.args.a _ c.requires.0.within c.requires.1 c.track_of.ensures, rw c.sector_of.ensures sector)
 
 pub stretch-stretch-requires : goal.stretch-stretch-requires
-stretch-stretch-requires c = (c.requires.0.within, (let there : (c.in-Slot.u.0 < track_count c.args.p) × (c.in-Slot.k < c.args.p.sectors) = 
-    one_there _ c.args.a _ _ _ _ c.track_of.ensures c.sector_of.ensures c.find_sector-found.ensures c.requires.0 c.requires.1 _ _ c.in-Slot.is in there).0)
+stretch-stretch-requires c = (
+  c.requires.0.within,
+  (let there : (c.in-Slot.u.0 < track_count c.args.p) × (c.in-Slot.k < c.args.p.sectors) =
+      one_there _ c.args.a _ _ _ _ c.track_of.ensures c.sector_of.ensures c.find_sector-found.ensures c.requires.0 c.requires.1 _ _ c.in-Slot.is in there).0,
+)
 
 pub write_data-requires : goal.write_data-requires
-write_data-requires c =
-    (c.requires.0.within, (let lent : length (take (c.stretch-stretch.result.end - c.stretch-stretch.result.start) (drop c.stretch-stretch.result.start c.args.image.now))
-    ≡ track_size c.args.p = 
-    one_lent _ c.args.a _ _ _ _ c.track_of.ensures c.sector_of.ensures c.find_sector-found.ensures c.requires.0 c.requires.1 _ _ c.in-Slot.is _ _ c.stretch-stretch.ensures.0 c.stretch-stretch.ensures.1 in lent), (let there : (c.in-Slot.u.0 < track_count c.args.p) × (c.in-Slot.k < c.args.p.sectors) = 
-    one_there _ c.args.a _ _ _ _ c.track_of.ensures c.sector_of.ensures c.find_sector-found.ensures c.requires.0 c.requires.1 _ _ c.in-Slot.is in there).1, c.requires.2)
+write_data-requires c = (
+  c.requires.0.within,
+  (let lent : length (take (c.stretch-stretch.result.end - c.stretch-stretch.result.start) (drop c.stretch-stretch.result.start c.args.image.now))
+      ≡ track_size c.args.p =
+      one_lent _ c.args.a _ _ _ _ c.track_of.ensures c.sector_of.ensures c.find_sector-found.ensures c.requires.0 c.requires.1 _ _ c.in-Slot.is _ _ c.stretch-stretch.ensures.0 c.stretch-stretch.ensures.1 in lent),
+  (let there : (c.in-Slot.u.0 < track_count c.args.p) × (c.in-Slot.k < c.args.p.sectors) =
+      one_there _ c.args.a _ _ _ _ c.track_of.ensures c.sector_of.ensures c.find_sector-found.ensures c.requires.0 c.requires.1 _ _ c.in-Slot.is in there).1,
+  c.requires.2,
+)
 
 pub returns-in-Fault : goal.returns-in-Fault
 returns-in-Fault c =

@@ -1,4 +1,4 @@
-use Prim.Native.Nat.{◌+◌, ◌-◌, ◌*◌, ◌≤◌}
+use Prim.Native.Nat.{◌+◌, ◌*◌, ◌≤◌}
 use mathlib.Core.Path.{◌≡◌}
 use native.Mathlib.Omega.{arith}
 use lib.ListN.{length, length-take, length-drop}
@@ -26,8 +26,11 @@ pub loop-i-init : goal.loop-i-init
 loop-i-init c = writing_none _ _ _ _ _
 
 pub further-here-requires : goal.further-here-requires
-further-here-requires c = omega (arith, (let address : c.args.a.0 + c.loop-i.i ≤ 229375 = 
-    omega (arith, c.requires.1, c.loop-i-test.true, sectors_most c.args.p c.requires.0.within) in address))
+further-here-requires c = omega (
+  arith,
+  (let address : c.args.a.0 + c.loop-i.i ≤ 229375 =
+      omega (arith, c.requires.1, c.loop-i-test.true, sectors_most c.args.p c.requires.0.within) in address),
+)
 
 pub overflow_sub-n : goal.overflow_sub-n
 overflow_sub-n c = omega (arith, c.loop-i-test.true)
@@ -36,31 +39,39 @@ pub sectors_here-m-requires : goal.sectors_here-m-requires
 sectors_here-m-requires c = (c.requires.0.within, omega (arith, c.loop-i-test.true))
 
 pub overflow_mul-end : goal.overflow_mul-end
-overflow_mul-end c = omega (arith, (let room : c.loop-i.at + c.sectors_here-m.result * c.args.p.size
-    ≤ length c.args.given.now = 
-    writing_room _ _ _ _ _ _ _ _ c.loop-i.invariant _ c.sectors_here-m.ensures.2 c.requires.2 in room))
+overflow_mul-end c = omega (
+  arith,
+  (let room : c.loop-i.at + c.sectors_here-m.result * c.args.p.size
+      ≤ length c.args.given.now =
+      writing_room _ _ _ _ _ _ _ _ c.loop-i.invariant _ c.sectors_here-m.ensures.2 c.requires.2 in room),
+)
 
 pub overflow_add-end : goal.overflow_add-end
-overflow_add-end c = omega (arith, (let room : c.loop-i.at + c.sectors_here-m.result * c.args.p.size
-    ≤ length c.args.given.now = 
-    writing_room _ _ _ _ _ _ _ _ c.loop-i.invariant _ c.sectors_here-m.ensures.2 c.requires.2 in room))
+overflow_add-end c = omega (
+  arith,
+  (let room : c.loop-i.at + c.sectors_here-m.result * c.args.p.size
+      ≤ length c.args.given.now =
+      writing_room _ _ _ _ _ _ _ _ c.loop-i.invariant _ c.sectors_here-m.ensures.2 c.requires.2 in room),
+)
 
 pub slice_bounds-write_part-end : goal.slice_bounds-write_part-end
 slice_bounds-write_part-end c = (let room : c.loop-i.at + c.sectors_here-m.result * c.args.p.size
-    ≤ length c.args.given.now = 
+    ≤ length c.args.given.now =
     writing_room _ _ _ _ _ _ _ _ c.loop-i.invariant _ c.sectors_here-m.ensures.2 c.requires.2 in room)
 
 pub write_part-part-requires : goal.write_part-part-requires
-write_part-part-requires c =
-    (
-      writing_fits _ _ _ _ _ _ _ _ c.loop-i.invariant c.requires.0,
-      further_on_drive c.args.p _ _ _ _ c.requires.1 c.loop-i-test.true c.further-here.ensures,
-      c.sectors_here-m.ensures.1,
-      c.sectors_here-m.ensures.3,
-      simp (length-take, length-drop) (omega (arith, (let room : c.loop-i.at + c.sectors_here-m.result * c.args.p.size
-    ≤ length c.args.given.now = 
-    writing_room _ _ _ _ _ _ _ _ c.loop-i.invariant _ c.sectors_here-m.ensures.2 c.requires.2 in room))),
-    )
+write_part-part-requires c = (
+  writing_fits _ _ _ _ _ _ _ _ c.loop-i.invariant c.requires.0,
+  further_on_drive c.args.p _ _ _ _ c.requires.1 c.loop-i-test.true c.further-here.ensures,
+  c.sectors_here-m.ensures.1,
+  c.sectors_here-m.ensures.3,
+  simp (length-take, length-drop) (omega (
+    arith,
+    (let room : c.loop-i.at + c.sectors_here-m.result * c.args.p.size
+        ≤ length c.args.given.now =
+        writing_room _ _ _ _ _ _ _ _ c.loop-i.invariant _ c.sectors_here-m.ensures.2 c.requires.2 in room),
+  )),
+)
 
 pub overflow_add-i : goal.overflow_add-i
 overflow_add-i c =

@@ -1,5 +1,5 @@
 use native.Mathlib.Omega.{arith}
-use Prim.Native.Nat.{◌-◌, ◌+◌, ◌≤◌}
+use Prim.Native.Nat.{◌+◌, ◌≤◌}
 use lib.ListN.{length, length-set, length-take, length-drop}
 use Rattle.track.proofs.Finds.{slot_end}
 use Rattle.track.proofs.Notes.{place_in, looked_from, found_noted, looking_hit, looking_more, looking_all}
@@ -21,16 +21,25 @@ loop-k-init c =
     record { looked = looked_from _ _ _ _ _ c.slot_size-size.ensures pre.3 pre.2 pre.5; none = c.if-slots-s.false }
 
 pub overflow_add-end : goal.overflow_add-end
-overflow_add-end c = omega (arith, (let room : c.loop-k.at + c.slot_size-size.result ≤ length c.args.track.now = let pre = c.requires in
-    slot_end _ _ _ _ _ _ c.slot_size-size.ensures c.loop-k.invariant.looked.place pre.1 c.loop-k-test.true in room))
+overflow_add-end c = omega (
+  arith,
+  (let room : c.loop-k.at + c.slot_size-size.result ≤ length c.args.track.now = let pre = c.requires in
+      slot_end _ _ _ _ _ _ c.slot_size-size.ensures c.loop-k.invariant.looked.place pre.1 c.loop-k-test.true in room),
+)
 
 pub slice_bounds-id-end : goal.slice_bounds-id-end
-slice_bounds-id-end c = omega (arith, (let room : c.loop-k.at + c.slot_size-size.result ≤ length c.args.track.now = let pre = c.requires in
-    slot_end _ _ _ _ _ _ c.slot_size-size.ensures c.loop-k.invariant.looked.place pre.1 c.loop-k-test.true in room))
+slice_bounds-id-end c = omega (
+  arith,
+  (let room : c.loop-k.at + c.slot_size-size.result ≤ length c.args.track.now = let pre = c.requires in
+      slot_end _ _ _ _ _ _ c.slot_size-size.ensures c.loop-k.invariant.looked.place pre.1 c.loop-k-test.true in room),
+)
 
 pub holds-requires : goal.holds-requires
-holds-requires c = simp (length-take, length-drop) (omega (arith, (let room : c.loop-k.at + c.slot_size-size.result ≤ length c.args.track.now = let pre = c.requires in
-    slot_end _ _ _ _ _ _ c.slot_size-size.ensures c.loop-k.invariant.looked.place pre.1 c.loop-k-test.true in room)))
+holds-requires c = simp (length-take, length-drop) (omega (
+  arith,
+  (let room : c.loop-k.at + c.slot_size-size.result ≤ length c.args.track.now = let pre = c.requires in
+      slot_end _ _ _ _ _ _ c.slot_size-size.ensures c.loop-k.invariant.looked.place pre.1 c.loop-k-test.true in room),
+))
 
 pub shape_of-slots-then-holds : goal.shape_of-slots-then-holds
 shape_of-slots-then-holds c = simp length-set (omega arith)
@@ -40,13 +49,21 @@ returns-then-holds c =
     looking_hit _ _ _ _ _ _ _ c.loop-k.invariant (omega arith) c.loop-k-test.true (omega arith) _ c.holds.ensures c.slot_size-size.ensures c.if-holds.true
 
 pub note-requires : goal.note-requires
-note-requires c =
-    (c.loop-k.invariant.looked.long, simp (length-take, length-drop) (omega (arith, (let room : c.loop-k.at + c.slot_size-size.result ≤ length c.args.track.now = let pre = c.requires in
-    slot_end _ _ _ _ _ _ c.slot_size-size.ensures c.loop-k.invariant.looked.place pre.1 c.loop-k-test.true in room))))
+note-requires c = (
+  c.loop-k.invariant.looked.long,
+  simp (length-take, length-drop) (omega (
+    arith,
+    (let room : c.loop-k.at + c.slot_size-size.result ≤ length c.args.track.now = let pre = c.requires in
+        slot_end _ _ _ _ _ _ c.slot_size-size.ensures c.loop-k.invariant.looked.place pre.1 c.loop-k-test.true in room),
+  )),
+)
 
 pub overflow_add-at : goal.overflow_add-at
-overflow_add-at c = omega (arith, (let room : c.loop-k.at + c.slot_size-size.result ≤ length c.args.track.now = let pre = c.requires in
-    slot_end _ _ _ _ _ _ c.slot_size-size.ensures c.loop-k.invariant.looked.place pre.1 c.loop-k-test.true in room))
+overflow_add-at c = omega (
+  arith,
+  (let room : c.loop-k.at + c.slot_size-size.result ≤ length c.args.track.now = let pre = c.requires in
+      slot_end _ _ _ _ _ _ c.slot_size-size.ensures c.loop-k.invariant.looked.place pre.1 c.loop-k-test.true in room),
+)
 
 pub loop-k-preserved : goal.loop-k-preserved
 loop-k-preserved c =
