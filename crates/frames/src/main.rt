@@ -1,71 +1,76 @@
 // Reads frames, one a line of hex digits, from standard input and prints an answer a line. What is said is the library's
-// (lines::talk); here are the slices, `read` and `write`.
-ghost use Rattle.std.specs.Prelude.{◌≡◌, true, ◌≤◌, length};
+// (lines::talk); here are the slices, reading and writing.
+#![tactic(auto)]
+
+ghost use Rattle.std.specs.Prelude.{◌≡◌, ℕ, ◌≤◌, ◌<◌, length, take, IfOk, OnOk, OnErr};
+ghost use Rattle.std.specs.Io.KnownBytes.{Appends, Consumes, IsAtEnd, Keeps};
 ghost use Rattle.model.specs.Engine.{images_of};
 ghost use Rattle.lines.specs.Talk.{talked};
 ghost use Rattle.lines.specs.Frames.{Talking};
 ghost use Rattle.lines.specs.Hearing.{talk_now, text_length};
-ghost use Rattle.frames.specs.Onward.{Onward};
+ghost use Rattle.frames.specs.Onward.{WritesFront, Onward, CutOff, Served, Failed};
 
 use lines::talk::{Session, begin, close, hear};
 use lines::{AREA_LENGTH, IMAGE_LENGTH, LINE_LENGTH, TEXT_LENGTH};
+use std::io;
+use std::io::{ErrorKind, Read, Write};
 
-const STDIN: i32 = 0;
-
-const STDOUT: i32 = 1;
-
-// Where the program stands, and whether it goes on: no read and no write has failed.
-#[derive(Clone, Copy)]
+// Where the program stands, and whether it goes on: `Ok` where no read and no write has failed, else how the first one did.
+#[derive(Drop)]
 pub struct Went {
     pub session: Session,
-    pub going: bool,
+    pub going: io::Result<()>,
 }
 
-// What a read has brought: so many characters, none at the input's end; or it has failed, and brought none.
-#[derive(Clone, Copy)]
-pub struct Got {
-    pub count: usize,
-    pub failed: bool,
-}
-
-// What has come of the input. A read that a signal has interrupted is tried again. One that fails otherwise is named on standard
-// error: where the input ends is then unknown.
-fn read_some(input: &mut [u8]) -> Got
-    ensures { result.count ≤ length input.new }
+// How many characters of the input have come, none at its end. A read that a signal has interrupted is tried again. One that fails
+// otherwise is passed on: where the input ends is then unknown.
+fn read_some<R: Read>(reader: &mut R, input: &mut [u8]) -> io::Result<usize>
+    ensures bound { IfOk result (λ n. n ≤ length input.new) }
+    ensures ok { IfOk result (λ n. Consumes (R.remaining reader.old) (R.remaining reader.new) (take n input.new)) }
+    ensures end { IfOk result (λ n. n ≡ 0 → 0 < length input.old → IsAtEnd (R.remaining reader.new)) }
+    ensures err { OnErr result (Keeps (R.remaining reader.old) (R.remaining reader.new)) }
 {
-    let mut turns = u64::MAX;
-    while 0 < turns {
-        let got = libc::read(STDIN, input);
-        if 0 <= got {
-            return Got {
-                count: io::count(got, input),
-                failed: false,
-            };
+    for _ in 0..u64::MAX {
+        match reader.read(input) {
+            Ok(n) => return Ok(n),
+            Err(e) => {
+                if e.kind() != ErrorKind::Interrupted {
+                    return Err(e);
+                }
+            }
         }
-        if os::errno() != libc::EINTR {
-            os::fail(b"read");
-            return Got {
-                count: 0,
-                failed: true,
-            };
-        }
-        turns -= 1;
     }
-    Got {
-        count: 0,
-        failed: true,
-    }
+    Err(io::Error::from(ErrorKind::Interrupted))
 }
 
-// Writes the first n characters of the text; says whether that went well.
-fn say(text: &[u8], n: usize) -> bool
+// Writes the first n characters of the text. Where that fails, a front of them is written. A write that a signal has interrupted is
+// tried again.
+fn say<W: Write>(writer: &mut W, text: &[u8], n: usize) -> io::Result<()>
     requires { n ≤ length text.now }
+    ensures ok { OnOk result (Appends (W.contents writer.old) (W.contents writer.new) (take n text.now)) }
+    ensures err { OnErr result (WritesFront (W.contents writer.old) (W.contents writer.new) (take n text.now)) }
 {
-    io::write_all(STDOUT, &text[0..n])
+    let mut done = 0;
+    for _ in 0..u64::MAX {
+        if done == n {
+            return Ok(());
+        }
+        match writer.write(&text[done..n]) {
+            Ok(0) => return Err(io::Error::from(ErrorKind::WriteZero)),
+            Ok(more) => done += more,
+            Err(e) => {
+                if e.kind() != ErrorKind::Interrupted {
+                    return Err(e);
+                }
+            }
+        }
+    }
+    Err(io::Error::from(ErrorKind::Interrupted))
 }
 
 // Takes in what has come of the input, all of it, a line at a time, and writes what is said. A failed write ends the program.
-fn feed(
+fn feed<W: Write>(
+    writer: &mut W,
     first: Session,
     input: &[u8],
     bytes: &mut [u8],
@@ -78,12 +83,18 @@ fn feed(
 ) -> Went
     requires talking { Talking (talk_now first bytes.old area.old (images_of image0.old image1.old image2.old image3.old)) }
     requires text_length_in_bounds { text_length ≤ length text.old }
-    ensures talking_2 { Talking (talk_now result.session bytes.new area.new
+    ensures talking_after { Talking (talk_now result.session bytes.new area.new
         (images_of image0.new image1.new image2.new image3.new)) }
-    ensures image3_after { result.going ≡ true → talk_now result.session bytes.new area.new
+    ensures heard { OnOk result.going (talk_now result.session bytes.new area.new
         (images_of image0.new image1.new image2.new image3.new)
         ≡ (talked (talk_now first bytes.old area.old
-        (images_of image0.old image1.old image2.old image3.old)) input.now).talk }
+        (images_of image0.old image1.old image2.old image3.old)) input.now).talk) }
+    ensures said { OnOk result.going (Appends (W.contents writer.old) (W.contents writer.new)
+        (talked (talk_now first bytes.old area.old
+        (images_of image0.old image1.old image2.old image3.old)) input.now).text) }
+    ensures cut { OnErr result.going (WritesFront (W.contents writer.old) (W.contents writer.new)
+        (talked (talk_now first bytes.old area.old
+        (images_of image0.old image1.old image2.old image3.old)) input.now).text) }
 {
     let end = input.len();
     let mut here = first;
@@ -93,10 +104,10 @@ fn feed(
         let got = hear(here, new, bytes, area, image0, image1, image2, image3, text);
         here = got.session;
         let n = got.length;
-        if !say(text, n) {
+        if let Err(e) = say(writer, text, n) {
             return Went {
                 session: here,
-                going: false,
+                going: Err(e),
             };
         }
         let taken = got.taken;
@@ -104,14 +115,16 @@ fn feed(
     }
     Went {
         session: here,
-        going: true,
+        going: Ok(()),
     }
 }
 
 // Answers line after line, and goes on to the last line only where the input has ended: after a read that failed the line under way
 // may be half a command, and half a command is not carried out. A proved loop has to end, and nothing says that the input does: so
-// it counts its turns down, from a number that no session uses up.
-fn converse(
+// it counts its turns, up to a number that no session uses up.
+fn converse<R: Read, W: Write>(
+    reader: &mut R,
+    writer: &mut W,
     first: Session,
     input: &mut [u8],
     bytes: &mut [u8],
@@ -124,27 +137,39 @@ fn converse(
 ) -> Went
     requires talking { Talking (talk_now first bytes.old area.old (images_of image0.old image1.old image2.old image3.old)) }
     requires text_length_in_bounds { text_length ≤ length text.old }
-    ensures talking_2 { Talking (talk_now result.session bytes.new area.new
+    ensures talking_after { Talking (talk_now result.session bytes.new area.new
         (images_of image0.new image1.new image2.new image3.new)) }
-    ensures onward { result.going ≡ true → Onward (talk_now first bytes.old area.old
+    ensures onward { OnOk result.going (Onward (talk_now first bytes.old area.old
         (images_of image0.old image1.old image2.old image3.old))
         (talk_now result.session bytes.new area.new
-        (images_of image0.new image1.new image2.new image3.new)) }
+        (images_of image0.new image1.new image2.new image3.new))
+        (R.remaining reader.old) (R.remaining reader.new) (W.contents writer.old) (W.contents writer.new)) }
+    ensures end { OnOk result.going (0 < length input.old → IsAtEnd (R.remaining reader.new)) }
+    ensures cut { OnErr result.going (CutOff (talk_now first bytes.old area.old
+        (images_of image0.old image1.old image2.old image3.old))
+        (R.remaining reader.old) (R.remaining reader.new) (W.contents writer.old) (W.contents writer.new)) }
 {
     let mut session = first;
-    let mut turns = u64::MAX;
-    while 0 < turns {
-        let got = read_some(input);
-        let n = got.count;
+    for _ in 0..u64::MAX {
+        let n = match read_some(reader, input) {
+            Ok(n) => n,
+            Err(e) => {
+                return Went {
+                    session,
+                    going: Err(e),
+                };
+            }
+        };
         if n == 0 {
             return Went {
-                session: session,
-                going: !got.failed,
+                session,
+                going: Ok(()),
             };
         }
         let went = feed(
+            writer,
             session,
-            &input[0..n],
+            &input[..n],
             bytes,
             area,
             image0,
@@ -154,18 +179,30 @@ fn converse(
             text,
         );
         session = went.session;
-        if !went.going {
-            return went;
+        match went.going {
+            Ok(()) => {}
+            Err(e) => {
+                return Went {
+                    session,
+                    going: Err(e),
+                };
+            }
         }
-        turns -= 1;
     }
     Went {
-        session: session,
-        going: false,
+        session,
+        going: Err(io::Error::other("the input has no end")),
     }
 }
 
-fn main() {
+// The whole program, for any reader and any writer: every line that the reader gives is answered, the last one too where it has no
+// line feed. After a read that failed, the line under way is not carried out.
+fn run<R: Read, W: Write>(reader: &mut R, writer: &mut W) -> io::Result<()>
+    ensures served { OnOk result (Served (R.remaining reader.old) (R.remaining reader.new)
+        (W.contents writer.old) (W.contents writer.new)) }
+    ensures failed { OnErr result (Failed (R.remaining reader.old) (R.remaining reader.new)
+        (W.contents writer.old) (W.contents writer.new)) }
+{
     let mut image0 = [0u8; IMAGE_LENGTH];
     let mut image1 = [0u8; IMAGE_LENGTH];
     let mut image2 = [0u8; 0];
@@ -176,6 +213,8 @@ fn main() {
     let mut input = [0u8; 4096];
     let first = begin(&bytes, &area, &image0, &image1, &image2, &image3);
     let last = converse(
+        reader,
+        writer,
         first,
         &mut input,
         &mut bytes,
@@ -187,18 +226,24 @@ fn main() {
         &mut text,
     );
     let session = last.session;
-    if last.going {
-        let heard = close(
-            session,
-            &bytes,
-            &mut area,
-            &mut image0,
-            &mut image1,
-            &mut image2,
-            &mut image3,
-            &mut text,
-        );
-        let n = heard.length;
-        say(&text, n);
+    match last.going {
+        Ok(()) => {}
+        Err(e) => return Err(e),
     }
+    let heard = close(
+        session,
+        &bytes,
+        &mut area,
+        &mut image0,
+        &mut image1,
+        &mut image2,
+        &mut image3,
+        &mut text,
+    );
+    let n = heard.length;
+    say(writer, &text, n)
+}
+
+fn main(rt: HostRuntime) -> io::Result<()> {
+    run(&mut rt.stdin(), &mut rt.stdout())
 }

@@ -1,10 +1,11 @@
 // Prints the sector in each slot of some layouts, and holds one against the S1420 manual.
+#![tactic(auto)]
+
 ghost use Rattle.std.specs.Prelude.{◌≤◌, ◌<◌};
 
 use base::bytes::same_bytes;
 use interleave::layout;
-
-const STDOUT: i32 = 1;
+use std::io;
 
 // Source document 001, table 4-12: the logical sector in each physical one, for 32 sectors and interleave 5.
 const TABLE_4_12: [u8; 32] = [
@@ -13,40 +14,34 @@ const TABLE_4_12: [u8; 32] = [
 ];
 
 fn wide(x: u8) -> u64 {
-    x as u64
+    u64::from(x)
 }
 
-fn print_sectors(sectors: &[u8]) {
-    let mut k = 0;
-    while k < sectors.len() {
-        io::write_all(STDOUT, b" ");
-        io::print_decimal(STDOUT, wide(sectors[k]));
-        k += 1;
+fn print_sectors(rt: &impl Print, sectors: &[u8]) -> io::Result<()> {
+    for sector in sectors {
+        print!(rt; " {}", wide(*sector))?;
     }
-    io::write_all(STDOUT, b"\n");
+    println!(rt; "")
 }
 
-fn print_layout(n: usize, f: usize)
+fn print_layout(rt: &impl Print, n: usize, f: usize) -> io::Result<()>
     requires { (f < n) × (n ≤ 32) }
 {
     let map = layout(n, f);
-    io::print_decimal(STDOUT, n as u64);
-    io::write_all(STDOUT, b" sectors, interleave ");
-    io::print_decimal(STDOUT, f as u64);
-    io::write_all(STDOUT, b":");
-    print_sectors(&map[0..n]);
+    print!(rt; "{n} sectors, interleave {f}:")?;
+    print_sectors(rt, &map[0..n])
 }
 
-fn main() {
-    print_layout(32, 5);
+fn main(rt: HostRuntime) -> io::Result<()> {
+    print_layout(&rt, 32, 5)?;
     if same_bytes(&layout(32, 5), &TABLE_4_12) {
-        io::write_all(STDOUT, b"as in table 4-12\n");
+        println!(rt; "as in table 4-12")?;
     } else {
-        io::write_all(STDOUT, b"NOT as in table 4-12\n");
+        println!(rt; "NOT as in table 4-12")?;
     }
-    print_layout(17, 2);
-    print_layout(32, 16);
-    print_layout(17, 16);
-    print_layout(16, 1);
-    print_layout(16, 6);
+    print_layout(&rt, 17, 2)?;
+    print_layout(&rt, 32, 16)?;
+    print_layout(&rt, 17, 16)?;
+    print_layout(&rt, 16, 1)?;
+    print_layout(&rt, 16, 6)
 }
