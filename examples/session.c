@@ -11,6 +11,8 @@
  *   image to its front, the label last of all. (A file system may change the order of writes between two fsync. On a card it
  *   matters: see docs/FIRMWARE.md.)
  *
+ * Its hard disk has step option 0, so that every seek arrives before it is answered, and nothing has to tick (docs/FIRMWARE.md, Ticks).
+ *
  * It ends with status 0 where all went well, 1 where a call or a file did not, 2 where it refuses its arguments. */
 #define _POSIX_C_SOURCE 200809L
 #include "lanthewg.h"

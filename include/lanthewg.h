@@ -9,8 +9,8 @@
  *
  * Each call is proved for any record, block, data and images, of any bytes and any lengths. The caller's duty is that each
  * pointer leads to as many bytes as its length says (a length of 0 needs a pointer that is not null), that what a call may
- * change (the record, the data area, the images of lanthewg_execute) overlaps nothing else that the call is lent, and that
- * the two flags of a drive are 0 or 1. */
+ * change (the record, the data area, the images of lanthewg_execute) overlaps nothing else that the call is lent, that
+ * the two flags of a drive are 0 or 1, and that no two calls on one record run at once: see lanthewg_tick. */
 #ifndef LANTHEWG_H
 #define LANTHEWG_H
 
@@ -18,7 +18,7 @@
 #include <stddef.h>
 #include <stdint.h>
 
-#define LANTHEWG_VERSION "0.8.0"
+#define LANTHEWG_VERSION "0.9.0"
 
 /* An answer that nobody looks at is a warning, where the compiler can say so. */
 #if defined(__GNUC__)
@@ -86,6 +86,12 @@ enum {
  *   block's address then says that A is moved already.
  * - A track is moved once: if B begins to fail, read A's sectors while they are found. */
 
+/* Seeks that overlap. On a hard disk with step option 1 to 4 (the high four bits of configuration byte 3, of the parameters in force)
+ * Seek and Recalibrate are answered at the start of the movement, and the arm moves one cylinder with each lanthewg_tick. Until it is
+ * there, every command of that drive but Request Sense and the buffer's fails with LANTHEWG_SENSE_SEEKING, also a Copy from it or to
+ * it; nothing is changed but the sense. Other drives work meanwhile. THE FIRMWARE MUST TICK: without ticks only a Reset frees the drive.
+ * With step option 0, and on a floppy, the arm arrives before the command is answered, and no tick is needed. */
+
 /* The numbers of a refusal, in which status, message and counts are 0 and nothing is changed. */
 enum {
     LANTHEWG_REFUSED_BLOCK = 1, /* the block is not six bytes, where it begins with LANTHEWG_OPCODE_COPY not ten */
@@ -101,6 +107,7 @@ enum { LANTHEWG_STATUS_ERROR = 0x02 };
 enum {
     LANTHEWG_SENSE_NONE = 0x00,
     LANTHEWG_SENSE_ABSENT = 0x04,          /* there is no such drive */
+    LANTHEWG_SENSE_SEEKING = 0x08,         /* its arm is on its way: tick, and send the command again */
     LANTHEWG_SENSE_NO_PARAMETERS = 0x0A,   /* none in force that are valid with the image; Reset takes the label's */
     LANTHEWG_SENSE_UNKNOWN_FLAG = 0x10,    /* the track's first ID has a flag above 3 */
     LANTHEWG_SENSE_NO_ID = 0x12,           /* the track has no ID where its first must be */
@@ -134,18 +141,26 @@ enum {
     LANTHEWG_LARGEST_FLOPPY = 1109776
 };
 
-/* What the card keeps of a drive. Its configuration is in force where it is known. */
+/* What the card keeps of a drive. Its configuration is in force where it is known. Two bytes that no call looks at or need write lie
+ * between target and way, so compare fields and not bytes. */
 typedef struct {
     uint8_t sense[LANTHEWG_SENSE_SIZE];
     uint8_t config[LANTHEWG_CONFIG_SIZE];
     bool known;
     bool pending;
+    uint16_t target; /* the cylinder where the arm rests or where it goes */
+    int32_t way;     /* the cylinders still to go: positive inward, negative toward cylinder 0, 0 at rest */
 } lanthewg_drive;
 
 typedef struct {
     uint8_t buffer[LANTHEWG_BUFFER_SIZE];
     lanthewg_drive drives[4];
 } lanthewg_controller;
+
+/* By drive, the cylinders that its arm has still to go: positive inward, negative toward cylinder 0, 0 at rest. */
+typedef struct {
+    int32_t ways[4];
+} lanthewg_ways;
 
 /* Number 0: the command was taken, and status has 2 + 32 x drive after a failure, 32 x drive otherwise (a Copy's source drive).
  * Numbers 1 to 3 refuse it (LANTHEWG_REFUSED_BLOCK and so on): then nothing is changed, and status is 0 too. */
@@ -171,7 +186,7 @@ void lanthewg_fresh(lanthewg_controller *controller,
                     const uint8_t *image3, size_t image3_length);
 
 /* Reset, also after a change of disk in a drive and before any other command: without it the former disk's parameters stay in
- * force. It drops pending parameters, sense bytes and buffer. Its answer is always good. */
+ * force. It drops pending parameters, sense bytes and buffer, and every arm is at cylinder 0. Its answer is always good. */
 lanthewg_answer lanthewg_reset(lanthewg_controller *controller,
                                const uint8_t *image0, size_t image0_length,
                                const uint8_t *image1, size_t image1_length,
@@ -188,6 +203,16 @@ lanthewg_answer lanthewg_execute(lanthewg_controller *controller,
                                  uint8_t *image1, size_t image1_length,
                                  uint8_t *image2, size_t image2_length,
                                  uint8_t *image3, size_t image3_length);
+
+/* Moves every travelling arm one cylinder, as fast as the firmware wants arms to move: from a timer, say. It is lent no image, and it
+ * changes the record: NOT FROM AN INTERRUPT THAT CAN COME WHILE ANOTHER CALL ON THE SAME RECORD RUNS. Let the interrupt count, and tick
+ * between calls. Ticks that come late only make a seek longer. */
+void lanthewg_tick(lanthewg_controller *controller);
+
+/* The way of each drive. It changes nothing: two reports may run at once, but a report and a call that changes the record may not. A
+ * drive whose way is w is ready after exactly |w| ticks, if no Reset comes. */
+LANTHEWG_LOOKED_AT
+lanthewg_ways lanthewg_report(const lanthewg_controller *controller);
 
 #ifdef __cplusplus
 }

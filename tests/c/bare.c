@@ -1,5 +1,6 @@
 /* The archive with no C library: its own start, its own memcpy, memmove and memset, linked with -nostdlib -static. A disk is initialized,
- * formatted, written and, after a Reset, read. Its status is 0, or the number of the step that went wrong. */
+ * formatted, written and, after a Reset, read; then it seeks, and is ready after as many ticks as a report says. Its status is 0, or the
+ * number of the step that went wrong. */
 #include "lanthewg.h"
 
 enum { LENGTH = 25360, SECTOR = 256, FILL = 0x6C };
@@ -35,7 +36,7 @@ static bool good(uint8_t opcode, uint8_t address, uint8_t extra, const uint8_t *
 }
 
 static int session(void) {
-    static const uint8_t three_tracks[LANTHEWG_CONFIG_SIZE] = {0, 3, 1, 0, 1, 0, 0, 0, 0, 11};
+    static const uint8_t three_tracks[LANTHEWG_CONFIG_SIZE] = {0, 3, 1, 0x10, 1, 0, 0, 0, 0, 11};
     lanthewg_fresh(&card, disk, sizeof disk, none, 0, none, 0, none, 0);
     for (int i = 0; i < SECTOR; i++) map[i] = (uint8_t)(255 - i);
     if (good(LANTHEWG_OPCODE_TEST_READY, 0, 0, none, 0)) return 1;
@@ -47,6 +48,12 @@ static int session(void) {
     for (int i = 0; i < SECTOR; i++) if (area[i] != map[i]) return 7;
     if (!good(LANTHEWG_OPCODE_READ, 30, 1, none, 0)) return 8;
     for (int i = 0; i < SECTOR; i++) if (area[i] != FILL) return 9;
+    if (!good(LANTHEWG_OPCODE_SEEK, 95, 0, none, 0) || good(LANTHEWG_OPCODE_TEST_READY, 0, 0, none, 0)) return 10;
+    for (int32_t way = 2; way > 0; way--) {
+        if (lanthewg_report(&card).ways[0] != way) return 11;
+        lanthewg_tick(&card);
+    }
+    if (!good(LANTHEWG_OPCODE_TEST_READY, 0, 0, none, 0)) return 12;
     return 0;
 }
 

@@ -96,6 +96,33 @@ static void codes(void) {
     good(LANTHEWG_OPCODE_WRITE, 32, 1);
 }
 
+/* On its way an arm holds every command off but Request Sense and the buffer's, as many ticks as its way says. */
+static void seeks(void) {
+    static const uint8_t stepping[LANTHEWG_CONFIG_SIZE] = {0, 3, 1, 0x10, 1, 0, 0, 0, 0, 11};
+    static const uint8_t others[] = {LANTHEWG_OPCODE_REQUEST_SENSE, LANTHEWG_OPCODE_WRITE_BUFFER, LANTHEWG_OPCODE_READ_BUFFER};
+    static const uint8_t held_off[] = {
+        LANTHEWG_OPCODE_TEST_READY, LANTHEWG_OPCODE_RECALIBRATE, LANTHEWG_OPCODE_FORMAT_DRIVE, LANTHEWG_OPCODE_CHECK_TRACK,
+        LANTHEWG_OPCODE_FORMAT_TRACK, LANTHEWG_OPCODE_FORMAT_BAD_TRACK, LANTHEWG_OPCODE_READ, LANTHEWG_OPCODE_WRITE,
+        LANTHEWG_OPCODE_SEEK, LANTHEWG_OPCODE_ASSIGN_ALTERNATE, LANTHEWG_OPCODE_INITIALIZE};
+    configure(stepping);
+    good(LANTHEWG_OPCODE_FORMAT_DRIVE, 0, 1);
+    good(LANTHEWG_OPCODE_READ, 0, 1);
+    good(LANTHEWG_OPCODE_SEEK, 95, 0);
+    for (int32_t way = 2; way > 0; way--) {
+        expect(lanthewg_report(&card).ways[0] == way, "a way inward", (unsigned)way);
+        for (size_t i = 0; i < sizeof held_off; i++) fails(LANTHEWG_SENSE_SEEKING, held_off[i], 0, 1);
+        for (size_t i = 0; i < sizeof others; i++) good(others[i], 0, 0);
+        lanthewg_tick(&card);
+    }
+    good(LANTHEWG_OPCODE_TEST_READY, 0, 0);
+    good(LANTHEWG_OPCODE_RECALIBRATE, 0, 0);
+    expect(lanthewg_report(&card).ways[0] == -2, "a way outward", 2);
+    fails(LANTHEWG_SENSE_SEEKING, LANTHEWG_OPCODE_READ, 0, 1);
+    lanthewg_answer a = lanthewg_reset(&card, disk, LENGTH, none, 0, none, 0, none, 0);
+    expect(lanthewg_is_good(a) && lanthewg_report(&card).ways[0] == 0, "Reset stops an arm", 0);
+    good(LANTHEWG_OPCODE_READ, 0, 1);
+}
+
 /* The control bits: a keep leaves what a track holds, without it the track is formatted, with the other bit from the buffer. Which
  * commands know which bit. */
 static void controls(void) {
@@ -376,6 +403,7 @@ int main(void) {
     label_by_hand();
     controls();
     keeps();
+    seeks();
     lanthewg_fresh(&card, none, 0, none, 0, none, 0, none, 0);
     memset(disk, 0, sizeof disk);
     sizes();

@@ -1,4 +1,4 @@
-/* What docs/FIRMWARE.md says of memory: sizes and alignment of the records; calls at odd addresses; which bytes of an image each
+/* What docs/FIRMWARE.md says of memory: sizes and alignment of the records; images and data at odd addresses; which bytes of an image each
  * command, refusal and Reset can change; and a change of disk. */
 #include "lanthewg.h"
 
@@ -7,15 +7,16 @@
 
 enum { LENGTH = 25360 + 100, LABEL = LANTHEWG_LABEL_SIZE, ID = 8, D = 256, TRACKS = 3, ODD = 3, HARD = 1, FLOPPY = 2 };
 
-_Static_assert(sizeof(lanthewg_controller) == 576 && _Alignof(lanthewg_controller) == 1, "the controller's record");
-_Static_assert(sizeof(lanthewg_drive) == 16 && _Alignof(lanthewg_drive) == 1, "a drive's record");
+_Static_assert(sizeof(lanthewg_controller) == 608 && _Alignof(lanthewg_controller) == 4, "the controller's record");
+_Static_assert(sizeof(lanthewg_drive) == 24 && _Alignof(lanthewg_drive) == 4, "a drive's record");
+_Static_assert(sizeof(lanthewg_ways) == 16 && _Alignof(lanthewg_ways) == 4, "a report");
 _Static_assert(sizeof(lanthewg_answer) == 12 && _Alignof(lanthewg_answer) == 4, "an answer");
 
-/* All at odd addresses. */
+/* The record at a multiple of 4 that is none of 8, all else at odd addresses. */
 static uint8_t memory[sizeof(lanthewg_controller) + 16] __attribute__((aligned(16)));
 static uint8_t disks[4][LENGTH + 16] __attribute__((aligned(16))), before[4][LENGTH], area[D * 4 + 16], given[D * 4 + 16];
 static uint8_t *image(int drive) { return disks[drive] + ODD + 2 * drive; }
-static lanthewg_controller *card(void) { return (lanthewg_controller *)(memory + ODD); }
+static lanthewg_controller *card(void) { return (lanthewg_controller *)(memory + 4); }
 static int failed, commands;
 
 static void expect(int holds, const char *what) {
@@ -68,13 +69,20 @@ static void command(const char *name, const uint8_t *block, int good, may what, 
     }
 }
 
-/* A refusal: no image, no byte of the record and none of the area changes. */
+/* The bytes of the record that are no field's, of which nothing is said: zero them, so that the others can be compared. */
+static void clear_gaps(void) {
+    for (int drive = 0; drive < 4; drive++) memset((uint8_t *)&card()->drives[drive] + offsetof(lanthewg_drive, way) - 2, 0, 2);
+}
+
+/* A refusal: no image, no field of the record and no byte of the area changes. */
 static void refused(unsigned number, const uint8_t *block, size_t size, size_t given_size, size_t area_size) {
     static uint8_t record[sizeof memory], handed[sizeof area];
     keep();
+    clear_gaps();
     memcpy(record, memory, sizeof memory);
     memcpy(handed, area, sizeof area);
     lanthewg_answer a = execute(block, size, given_size, area_size);
+    clear_gaps();
     commands++;
     expect(a.number == number, "a call that must be refused is not");
     expect(changed_images() == 0, "a refusal changes an image");
@@ -228,7 +236,7 @@ int main(void) {
     keeps();
     refusals();
     own_sense();
-    expect(((uintptr_t)card() & 1) && ((uintptr_t)image(1) & 1) && ((uintptr_t)image(2) & 1), "the addresses are not odd");
+    expect(((uintptr_t)card() & 7) == 4 && ((uintptr_t)image(1) & 1) && ((uintptr_t)image(2) & 1), "the addresses are not odd");
     reset();
     expect(card()->drives[1].known && !card()->drives[1].pending, "the label that was written");
     change_of_disk();

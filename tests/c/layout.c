@@ -14,9 +14,10 @@ static void expect(int holds, const char *what) {
     if (!holds) { printf("layout: %s\n", what); failed = 1; }
 }
 
-/* The first place where the record is not zero. */
+/* The first place where the record is not zero. Two bytes before each way are no field's, and may be anything. */
 static size_t first_change(void) {
     size_t i = 0;
+    for (int drive = 0; drive < 4; drive++) memset((uint8_t *)&record.card.drives[drive] + 18, 0, 2);
     while (i < sizeof record.bytes && record.bytes[i] == 0) i++;
     return i;
 }
@@ -39,13 +40,15 @@ static lanthewg_answer command(uint8_t opcode, int drive, uint8_t extra, const u
     return lent(block, sizeof block, data, data_length, LENGTH, LENGTH);
 }
 
-/* fresh fills the record from the first byte to the last, and nothing past it */
+/* fresh fills the record from the first field to the last, and nothing past it */
 static void sizes(void) {
     memset(record.bytes, 0xEE, sizeof record.bytes);
     fresh(LENGTH, LENGTH);
     expect(first_change() == SIZE, "the record's size");
     memset(record.bytes, 0, sizeof record.bytes);
-    expect(sizeof(lanthewg_drive) == 16 && sizeof(lanthewg_answer) == 12, "sizes of drive and answer");
+    expect(sizeof(lanthewg_drive) == 24 && sizeof(lanthewg_answer) == 12, "sizes of drive and answer");
+    expect(sizeof(lanthewg_ways) == 16 && SIZE == 608, "sizes of ways and record");
+    expect(offsetof(lanthewg_drive, target) == 16 && offsetof(lanthewg_drive, way) == 20, "the places of target and way");
 }
 
 /* The sense of each drive: Test Ready of an absent or unconfigured one leaves a code in its first byte. */
@@ -68,6 +71,27 @@ static void buffer(void) {
     expect(memcmp(record.card.buffer, given, 512) == 0, "the buffer");
     lanthewg_answer a = command(0x10, 0, 0, given, 0);
     expect(a.bytes == 512 && memcmp(area, given, 512) == 0, "bytes handed over");
+}
+
+/* A report gives each drive's way in its place, and a tick steps each by itself: inward, outward, at the ends of the range. */
+static void ways(void) {
+    static const int32_t before[4] = {3, -2, 2147483647, -2147483647 - 1};
+    static const int32_t after[4] = {2, -1, 2147483646, -2147483647};
+    fresh(LENGTH, LENGTH);
+    for (int drive = 0; drive < 4; drive++) {
+        record.card.drives[drive].way = before[drive];
+        record.card.drives[drive].target = (uint16_t)(1000 + drive);
+    }
+    lanthewg_ways told = lanthewg_report(&record.card);
+    expect(memcmp(told.ways, before, sizeof before) == 0, "a report's four ways");
+    lanthewg_tick(&record.card);
+    told = lanthewg_report(&record.card);
+    expect(memcmp(told.ways, after, sizeof after) == 0, "the ways after a tick");
+    for (int drive = 0; drive < 4; drive++) {
+        expect(record.card.drives[drive].way == after[drive], "a drive's way");
+        expect(record.card.drives[drive].target == 1000 + drive, "where an arm goes");
+    }
+    memset(record.bytes, 0, sizeof record.bytes);
 }
 
 /* The four labels are in force. */
@@ -128,6 +152,8 @@ int main(void) {
     senses(LENGTH, 0);
     senses(15, LENGTH);
     buffer();
+    ways();
+    fresh(LENGTH, LENGTH);
     drives();
     refusals();
     if (failed) return 1;

@@ -1,5 +1,5 @@
-/* How deep the calls go, in a run: every command, on a painted stack, of which the bytes that were never written are counted.
- * Prints what was used below the caller's frame: the calls, the arguments on the stack, and what memcpy, memmove and memset use. */
+/* How deep the calls go, in a run: every command, Reset, tick and report, on a painted stack, of which the bytes that were never written
+ * are counted. Prints what was used below the caller's frame: the calls, the arguments on the stack, and what memcpy, memmove and memset use. */
 #define _XOPEN_SOURCE 600
 #include "lanthewg.h"
 
@@ -26,6 +26,17 @@ static void execute(void) {
 static void reset(void) {
     frame = __builtin_frame_address(0);
     answer = lanthewg_reset(&card, disk, sizeof disk, none, 0, floppy, sizeof floppy, none, 0);
+}
+
+static void tick(void) {
+    frame = __builtin_frame_address(0);
+    lanthewg_tick(&card);
+}
+
+static lanthewg_ways told;
+static void report(void) {
+    frame = __builtin_frame_address(0);
+    told = lanthewg_report(&card);
 }
 
 /* How many bytes below its own frame a function has written to. */
@@ -89,6 +100,9 @@ int main(void) {
         if ((depth = painted(execute)) > most) most = depth;
         if (lanthewg_is_good(answer) != commands[i].good) { printf("painted: command %zu ended otherwise than it should\n", i); return 1; }
     }
+    if ((depth = painted(tick)) > most) most = depth;
+    if ((depth = painted(report)) > most) most = depth;
+    if (told.ways[0] != 0) { printf("painted: an arm is on its way\n"); return 1; }
     if ((depth = painted(reset)) > most) most = depth;
     printf("%ld\n", most);
     return !lanthewg_is_good(answer);

@@ -42,7 +42,8 @@ fn run() -> u8 {
     let mut card = lanthewg::Controller::fresh([&[]; 4]);
     let answer = card.execute(&[lanthewg::OPCODE_TEST_READY, 0, 0, 0, 0, 0], &[], &mut [], [&mut [], &mut [], &mut [], &mut []]);
     let absent = answer.is_failed() && card.drives[0].sense[0] == lanthewg::SENSE_ABSENT;
-    if absent && card.reset([&[]; 4]).is_good() { answer.status } else { 1 }
+    card.tick();
+    if absent && card.report() == [0; 4] && card.reset([&[]; 4]).is_good() { answer.status } else { 1 }
 }
 
 extern "C" fn begin() -> ! {

@@ -62,8 +62,8 @@ BEGIN {
     split("00 Test Ready|01 Recalibrate|03 Request Sense|04 Format Drive|05 Check Track|06 Format Track|07 Format Bad Track|" \
         "08 Read|0A Write|0B Seek|0E Assign Alternate|0F Write Buffer|10 Read Buffer|11 Initialize|20 Copy Blocks", rows, "|")
     for (i in rows) commands[substr(rows[i], 1, 2)] = substr(rows[i], 4)
-    split("04 there is no such drive|0A the drive has no parameters|10 the track's ID has no known flag|12 the track has no ID|" \
-        "14 the track does not hold this sector|15 the track's ID is that of another track|" \
+    split("04 there is no such drive|08 the arm is on its way: it needs ticks, or a Reset|0A the drive has no parameters|" \
+        "10 the track's ID has no known flag|12 the track has no ID|14 the track does not hold this sector|15 the track's ID is that of another track|" \
         "16 the parameters are pending: Reset brings the disk's own back; a format from track 0 loses everything|19 the track is flagged as bad|" \
         "1A the track was not formatted with this interleave|1C the track is in use as an alternate|1D one of a pair would be freed or used twice|" \
         "1E the track's alternate does not name it back|1F the alternate is moved or bad|20 there is no such command|" \

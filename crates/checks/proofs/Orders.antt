@@ -1,6 +1,7 @@
 -- Laws of the checks: control bits, bounds on counts and lengths, what the code's calls come to.
-use mathlib.Core.Path.{◌≡◌, refl}
-use mathlib.Core.Bool.{Bool, true, not, ◌&&◌, ◌||◌, and-true, and-false, or-false}
+use mathlib.Core.Path.{◌≡◌, refl, sym, ◌∙◌}
+use mathlib.Core.Bool.{Bool, true, not, ◌&&◌, ◌||◌, and-true, and-false, or-false, false}
+use mathlib.Core.List.{List, ◌∷◌}
 use Prim.Native.Nat.{ℕ, ◌+◌, ◌-◌, ◌*◌, ◌%◌, ◌≤◌, ◌<◌}
 use native.Mathlib.Nat.{mul-le-mul}
 use native.Mathlib.Omega.{arith}
@@ -20,8 +21,9 @@ use Rattle.model.specs.declared.verdict.Hits.{Hits}
 use Rattle.model.specs.declared.verdict.Verdict.{Verdict}
 use Rattle.model.specs.declared.verdict.View.{View}
 use Rattle.model.specs.Block.{count_of}
-use Rattle.model.specs.Table.{Check, FillBit, KeepBit, Counted, SparedWhole, TableRow, applies, row_for}
-use Rattle.model.specs.Checks.{judged, is_unknown, control_wrong, with_params, past_end, not_spared, size_in, bytes_of, reach_of, hits_of, in_order, judge}
+use Rattle.model.specs.Table.{Check, FillBit, KeepBit, Counted, SparedWhole, TableRow, applies, row_for, Settled}
+use Rattle.model.specs.Checks.{Test, judged, is_unknown, control_wrong, with_params, past_end, not_spared, size_in, bytes_of, reach_of, hits_of, in_order, judge}
+use Rattle.model.proofs.engine.Judged.{judged_hit, judged_on}
 use Rattle.table.specs.declared.rows.Row.{Row}
 use Rattle.table.specs.Rows.{has, bit_of, Says}
 use Rattle.checks.specs.Legal.{Legal}
@@ -77,13 +79,19 @@ module _ {row : Row} {e : TableRow} (says : Says row e) where
       → hit ≡ (applies check e && asked)
   checked check b a h = rw (h, b, a, says.checks check)
 
+  -- the same, where the code looks at the bit first
+  pub checked_first : (check : Check) (asked : Bool) {bit hit : Bool} → bit ≡ has row.checks (bit_of check) → hit ≡ (bit && asked)
+      → hit ≡ (applies check e && asked)
+  checked_first check asked b h = rw (h, b, says.checks check)
+
   pub control_checked : (control : ℕ) {fill keep wrong : Bool} → fill ≡ has row.checks (bit_of FillBit) → keep ≡ has row.checks (bit_of KeepBit)
       → wrong ≡ control_wrong fill keep control → wrong ≡ control_wrong (applies FillBit e) (applies KeepBit e) control
   control_checked control f k w = rw (w, f, k, says.checks FillBit, says.checks KeepBit)
 
-  pub held_checked : (setting : Setting) (a : Lba) {whole held : Bool} → whole ≡ has row.checks (bit_of SparedWhole)
-      → held ≡ with_params setting (not_spared whole a) → held ≡ with_params setting (not_spared (applies SparedWhole e) a)
-  held_checked setting a w h = rw (h, w, says.checks SparedWhole)
+  pub pending_checked : (pending : Bool) (setting : Setting) (a : Lba) {whole asked hit : Bool} → whole ≡ has row.checks (bit_of SparedWhole)
+      → asked ≡ has row.checks (bit_of Settled) → hit ≡ (pending && (asked && with_params setting (not_spared whole a)))
+      → hit ≡ (pending && (applies Settled e && with_params setting (not_spared (applies SparedWhole e) a)))
+  pending_checked pending setting a w b h = rw (h, w, b, says.checks SparedWhole, says.checks Settled)
 
   pub unknown_checked : {unknown : Bool} → unknown ≡ is_unknown row.command → unknown ≡ is_unknown e.command
   unknown_checked u = rw (u, says.command)
@@ -96,17 +104,19 @@ bytes_checked b setting n k h = rw (h, k)
 pub any_of : (a : Bool) {b c b' c' rest all : Bool} → b ≡ b' → c ≡ c' → rest ≡ (b || c) → all ≡ (a || rest) → all ≡ (a || (b' || c'))
 any_of a b c r h = rw (h, r, b, c)
 
-pub with_pending : (pending : Bool) {held held' all : Bool} → held ≡ held' → all ≡ (pending && held) → all ≡ (pending && held')
-with_pending pending h a = rw (a, h)
+-- a check that is asked for is its test
+pub asked_so : (asked test : Bool) {r : Bool} → asked ≡ true → r ≡ test → r ≡ (asked && test)
+asked_so asked test e h = rw (e, h)
 
--- the nine hits, one by one
-abbrev pub hits : (unknown wrong absent unset interleave past pending short small : Bool) → Hits
-hits unknown wrong absent unset interleave past pending short small =
+-- the ten hits, one by one
+abbrev pub hits : (unknown wrong absent unset travelling interleave past pending short small : Bool) → Hits
+hits unknown wrong absent unset travelling interleave past pending short small =
     record {
       unknown = unknown;
       wrong = wrong;
       absent = absent;
       unset = unset;
+      travelling = travelling;
       interleave = interleave;
       past = past;
       pending = pending;
@@ -114,13 +124,21 @@ hits unknown wrong absent unset interleave past pending short small =
       small = small;
     }
 
-pub hits_same : {a b c d e f g h i a' b' c' d' e' f' g' h' i' : Bool}
-    → a ≡ a' → b ≡ b' → c ≡ c' → d ≡ d' → e ≡ e' → f ≡ f' → g ≡ g' → h ≡ h' → i ≡ i' → hits a b c d e f g h i ≡ hits a' b' c' d' e' f' g' h' i'
-hits_same p₁ p₂ p₃ p₄ p₅ p₆ p₇ p₈ p₉ = cc
+pub hits_same : {a b c d e f g h i j a' b' c' d' e' f' g' h' i' j' : Bool}
+    → a ≡ a' → b ≡ b' → c ≡ c' → d ≡ d' → e ≡ e' → f ≡ f' → g ≡ g' → h ≡ h' → i ≡ i' → j ≡ j'
+    → hits a b c d e f g h i j ≡ hits a' b' c' d' e' f' g' h' i' j'
+hits_same p₁ p₂ p₃ p₄ p₅ p₆ p₇ p₈ p₉ p₁₀ = cc
 
--- ---- a block's verdict
-pub judge_checked : {row : Row} (b : Block) (v : View) (given area : ℕ) {reach : ℕ} {counted : Bool} {found : Hits} {verdict : Verdict}
-    → Says row (row_for b.opcode) → counted ≡ has row.checks (bit_of Counted) → reach ≡ reach_of counted b
-    → found ≡ hits_of (row_for b.opcode) b reach v given area → verdict ≡ judged (in_order b.address found) → verdict ≡ judge b v given area
-unfolding judge
-judge_checked b v given area says n r f h = rw (h, f, r, n, says.checks Counted)
+-- ---- one test after the other: it hits, and its verdict stands; or what comes after it
+pub stops : (hit : Bool) (verdict : Verdict) (tests : List Test) {found : Bool} → found ≡ hit → found ≡ true
+    → verdict ≡ judged (record { hit = hit; verdict = verdict } ∷ tests)
+stops hit verdict tests e t = sym (judged_hit hit verdict tests (sym e ∙ t))
+
+pub goes : (hit : Bool) (verdict : Verdict) (tests : List Test) {found : Bool} {r : Verdict} → found ≡ hit → found ≡ false → r ≡ judged tests
+    → r ≡ judged (record { hit = hit; verdict = verdict } ∷ tests)
+goes hit verdict tests e t h = h ∙ sym (judged_on hit verdict tests (sym e ∙ t))
+
+-- ---- a block's reach is its row's
+pub reach_checked : {row : Row} (b : Block) {counted : Bool} {reach : ℕ} → Says row (row_for b.opcode) → counted ≡ has row.checks (bit_of Counted)
+    → reach ≡ reach_of counted b → reach ≡ reach_of (applies Counted (row_for b.opcode)) b
+reach_checked b says n r = rw (r, n, says.checks Counted)

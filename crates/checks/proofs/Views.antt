@@ -54,5 +54,6 @@ fault_over b reach v given area verdict is code at e h =
     fault_in P code at _ _ _ _ (omega arith, h) (λ _.
     fault_in P code at _ _ _ _ (omega arith, h) (λ _.
     fault_in P code at _ _ _ _ (omega arith, h) (λ _.
-    fault_past P code at _ _ _ (λ _. fault_past P code at _ _ _ (λ _. fault_none P code at)))))))))
+    fault_in P code at _ _ _ _ (omega arith, h) (λ _.
+    fault_past P code at _ _ _ (λ _. fault_past P code at _ _ _ (λ _. fault_none P code at))))))))))
     (sym is ∙ e)

@@ -1,5 +1,5 @@
 // The order of checks.
-ghost use Rattle.std.specs.Prelude.{◌≡◌, ◌≤◌, ◌<◌};
+ghost use Rattle.std.specs.Prelude.{◌≡◌, ◌≤◌, ◌<◌, ◌&&◌, ltb};
 ghost use Rattle.geometry.specs.Params.{Within};
 ghost use Rattle.geometry.specs.Config.{is_valid};
 ghost use Rattle.model.specs.Table.{row_for};
@@ -7,6 +7,7 @@ ghost use Rattle.model.specs.Checks.{judged, is_unknown, control_wrong, block_wr
 ghost use Rattle.model.specs.Premises.{address_limit, WellFormed};
 ghost use Rattle.table.specs.Rows.{Says};
 ghost use Rattle.checks.specs.Legal.{Legal};
+ghost use Rattle.checks.specs.Tests.{length_tests, address_tests, drive_tests};
 
 use crate::block::count_of;
 use base::logic::{both, either};
@@ -17,8 +18,8 @@ use model::block::Block;
 use model::table::{Command, Data};
 use model::verdict::{Hits, Verdict, View};
 use table::rows::{
-    ADDRESS, CONTROL, COUNTED, FILL_BIT, HARD_ONLY, INTERLEAVE, KEEP_BIT, PARAMETERS, PRESENT, Row,
-    SETTLED, SPARED_WHOLE, has,
+    ADDRESS, ARRIVED, CONTROL, COUNTED, FILL_BIT, HARD_ONLY, INTERLEAVE, KEEP_BIT, PARAMETERS,
+    PRESENT, Row, SETTLED, SPARED_WHOLE, has,
 };
 
 fn is_unknown(command: Command) -> bool
@@ -90,6 +91,17 @@ fn interleave_wrong(f: u8, setting: Setting) -> bool
     }
 }
 
+// By this and the like below a command does not pay for checks that it does not meet.
+fn interleave_hits(asked: bool, f: u8, setting: Setting) -> bool
+    requires { Legal setting }
+    ensures { result ≡ («asked» && with_params setting (interleave_wrong f)) }
+{
+    if asked {
+        return interleave_wrong(f, setting);
+    }
+    false
+}
+
 // Up to 1,024 sectors: a Read or Write has 256 at the most, a Copy (request E5) fills as many as that. Where it fills none, one of its
 // drives has no parameters.
 pub fn past_end(a: Lba, reach: usize, setting: Setting) -> bool
@@ -105,6 +117,16 @@ pub fn past_end(a: Lba, reach: usize, setting: Setting) -> bool
     }
 }
 
+fn past_hits(asked: bool, a: Lba, reach: usize, setting: Setting) -> bool
+    requires { Legal setting × (a.0 < address_limit) × (reach ≤ 1024) }
+    ensures { result ≡ («asked» && with_params setting (past_end a reach)) }
+{
+    if asked {
+        return past_end(a, reach, setting);
+    }
+    false
+}
+
 fn not_spared(whole: bool, a: Lba, setting: Setting) -> bool
     requires { Legal setting }
     ensures { result ≡ with_params setting (not_spared «whole» a) }
@@ -116,6 +138,26 @@ fn not_spared(whole: bool, a: Lba, setting: Setting) -> bool
         }
         Setting::Invalid => false,
     }
+}
+
+fn settled_hits(asked: bool, whole: bool, a: Lba, setting: Setting) -> bool
+    requires { Legal setting }
+    ensures { result ≡ («asked» && with_params setting (not_spared «whole» a)) }
+{
+    if asked {
+        return not_spared(whole, a, setting);
+    }
+    false
+}
+
+fn pending_hits(pending: bool, asked: bool, whole: bool, a: Lba, setting: Setting) -> bool
+    requires { Legal setting }
+    ensures { result ≡ («pending» && («asked» && with_params setting (not_spared «whole» a))) }
+{
+    if pending {
+        return settled_hits(asked, whole, a, setting);
+    }
+    false
 }
 
 fn size_in(setting: Setting) -> usize
@@ -150,32 +192,72 @@ fn reach_of(counted: bool, b: Block) -> usize
     1
 }
 
-// The checks that hit.
-fn hits_of(row: Row, b: Block, reach: usize, view: View, given: usize, area: usize) -> Hits
-    requires { Says row (row_for b.opcode) × Legal view.setting × WellFormed b × (reach ≤ 256) }
-    ensures { result ≡ hits_of (row_for b.opcode) b reach view given area }
+// ---- The order for a command of one drive. Each check is asked for when those before it have passed: a command does not pay for what it does
+// not come to. Numbers 2 and 3.
+fn judge_lengths(row: Row, b: Block, setting: Setting, given: usize, area: usize) -> Verdict
+    requires { Says row (row_for b.opcode) × Legal setting }
+    ensures { result ≡ judged (length_tests (ltb given (bytes_of (row_for b.opcode).takes b setting))
+        (ltb area (bytes_of (row_for b.opcode).gives b setting))) }
 {
-    let command = row.command;
-    let checks = row.checks;
     let takes = row.takes;
     let gives = row.gives;
-    let setting = view.setting;
-    let at = b.address;
-    let held = not_spared(has(checks, SPARED_WHOLE), at, setting);
-    Hits {
-        unknown: is_unknown(command),
-        wrong: block_wrong(row, b, view),
-        absent: both(has(checks, PRESENT), !view.present),
-        unset: both(has(checks, PARAMETERS), !is_valid(setting)),
-        interleave: both(has(checks, INTERLEAVE), interleave_wrong(b.extra, setting)),
-        past: both(has(checks, ADDRESS), past_end(at, reach, setting)),
-        pending: both(view.pending, both(has(checks, SETTLED), held)),
-        short: given < bytes_of(takes, b, setting),
-        small: area < bytes_of(gives, b, setting),
+    if given < bytes_of(takes, b, setting) {
+        return Verdict::Refused(2);
     }
+    if area < bytes_of(gives, b, setting) {
+        return Verdict::Refused(3);
+    }
+    Verdict::Passed
 }
 
-// The first check that hits, in document 01's order.
+// Interleave, 22h; 21h; 16h.
+fn judge_address(row: Row, b: Block, reach: usize, view: View, given: usize, area: usize) -> Verdict
+    requires { Says row (row_for b.opcode) × Legal view.setting × WellFormed b × (reach ≤ 256) }
+    ensures { result ≡ judged (address_tests b.address (hits_of (row_for b.opcode) b reach view given area)) }
+{
+    let checks = row.checks;
+    let setting = view.setting;
+    let at = b.address;
+    let pending = view.pending;
+    if interleave_hits(has(checks, INTERLEAVE), b.extra, setting) {
+        return Verdict::Faulty(0x22, at);
+    }
+    if past_hits(has(checks, ADDRESS), at, reach, setting) {
+        return Verdict::Faulty(0x21, at);
+    }
+    if pending_hits(
+        pending,
+        has(checks, SETTLED),
+        has(checks, SPARED_WHOLE),
+        at,
+        setting,
+    ) {
+        return Verdict::Faulty(0x16, at);
+    }
+    judge_lengths(row, b, setting, given, area)
+}
+
+// 04h; 0Ah; 08h.
+fn judge_drive(row: Row, b: Block, reach: usize, view: View, given: usize, area: usize) -> Verdict
+    requires { Says row (row_for b.opcode) × Legal view.setting × WellFormed b × (reach ≤ 256) }
+    ensures { result ≡ judged (drive_tests b.address (hits_of (row_for b.opcode) b reach view given area)) }
+{
+    let checks = row.checks;
+    let setting = view.setting;
+    let at = b.address;
+    if both(has(checks, PRESENT), !view.present) {
+        return Verdict::Faulty(0x04, at);
+    }
+    if both(has(checks, PARAMETERS), !is_valid(setting)) {
+        return Verdict::Faulty(0x0A, at);
+    }
+    if both(has(checks, ARRIVED), view.travelling) {
+        return Verdict::Faulty(0x08, at);
+    }
+    judge_address(row, b, reach, view, given, area)
+}
+
+// The first check that hits, in document 01's order: for a drive of a Copy.
 pub fn order(at: Lba, hits: Hits) -> Verdict
     ensures { result ≡ judged (in_order at hits) }
 {
@@ -190,6 +272,9 @@ pub fn order(at: Lba, hits: Hits) -> Verdict
     }
     if hits.unset {
         return Verdict::Faulty(0x0A, at);
+    }
+    if hits.travelling {
+        return Verdict::Faulty(0x08, at);
     }
     if hits.interleave {
         return Verdict::Faulty(0x22, at);
@@ -214,6 +299,14 @@ pub fn judge(row: Row, b: Block, view: View, given: usize, area: usize) -> Verdi
     requires { Says row (row_for b.opcode) × Legal view.setting × WellFormed b }
     ensures { result ≡ judge b view given area }
 {
+    let command = row.command;
+    let at = b.address;
+    if is_unknown(command) {
+        return Verdict::Faulty(0x20, at);
+    }
+    if block_wrong(row, b, view) {
+        return Verdict::Faulty(0x22, at);
+    }
     let reach = reach_of(has(row.checks, COUNTED), b);
-    order(b.address, hits_of(row, b, reach, view, given, area))
+    judge_drive(row, b, reach, view, given, area)
 }

@@ -21,12 +21,13 @@ use Rattle.pouring.specs.Promises.{CopyReady, CopiedBy}
 use Rattle.model.specs.declared.block.CopyBlock.{CopyBlock}
 use Rattle.model.specs.declared.record.Drive.{Drive}
 use Rattle.model.specs.declared.record.Ending.{Ending}
+use Rattle.model.specs.declared.record.CopyArms.{CopyArms}
 use Rattle.model.specs.Block.{count_of}
 use Rattle.model.specs.Record.{failed, good}
-use Rattle.model.specs.Copies.{copy_effect, route_of, copy_ending, copy_left}
+use Rattle.model.specs.Copies.{copy_effect, route_of, copy_ending, arms_of, copy_left}
 use Rattle.model.specs.Premises.{OnDrives}
 use Rattle.model.proofs.engine.Checked.{count_some}
-use Rattle.copies.specs.Ends.{CanEnd}
+use Rattle.copies.specs.Ends.{CanEnd, CanRest}
 
 -- ---- a copy can begin
 pub copies_on : (k : CopyBlock) (p q : Params) (m : ℕ) (images : List (List ℕ)) (buffer : List ℕ) → m ≡ count_of k.from → OnDrives k p q images
@@ -82,11 +83,24 @@ module _ (k : CopyBlock) (p q : Params) (images : List (List ℕ)) (ready : OnDr
   pub can_end : (m : ℕ) (c : Copied) (before after : List ℕ) (left : List (List ℕ)) → m ≡ n → CopiedBy (copied r m images) c before after left → CanEnd k c
   can_end m c before after left e by = can_end_so c before after left (rw e at by)
 
+  -- what it has done lies on the drives
+  can_rest_so : (c : Copied) (before after : List ℕ) (left : List (List ℕ)) → CopiedBy (copied r n images) c before after left → CanRest r c
+  can_rest_so c before after left by = record {
+    source_within = fit.source_fits.within;
+    target_within = fit.target_fits.within;
+    source_on = omega (arith, by.read, copied_read r n images fit, fit.source_on);
+    target_on = omega (arith, by.done, copied_most r n images fit, fit.target_on);
+  }
+
+  pub can_rest : (m : ℕ) (c : Copied) (before after : List ℕ) (left : List (List ℕ)) → m ≡ n → CopiedBy (copied r m images) c before after left → CanRest r c
+  can_rest m c before after left e by = can_rest_so c before after left (rw e at by)
+
   -- ---- what it leaves
-  pub copy_leaves : (entry : Drive) (m : ℕ) (c : Copied) (before after : List ℕ) (left : List (List ℕ)) (ending : Ending) → m ≡ n
-      → CopiedBy (copied r m images) c before after left → ending ≡ copy_ending k c.read c.done c.end entry → copy_effect ending after left ≡ copy_left k entry before (copied r n images)
+  pub copy_leaves : (entry : Drive) (m : ℕ) (c : Copied) (before after : List ℕ) (left : List (List ℕ)) (ending : Ending) (arms : CopyArms) → m ≡ n
+      → CopiedBy (copied r m images) c before after left → ending ≡ copy_ending k c.read c.done c.end entry
+      → arms ≡ arms_of r c.read c.done c.end → copy_effect ending arms after left ≡ copy_left k r entry before (copied r n images)
   unfolding copy_left
-  copy_leaves entry m c before after left ending em by e = rw (e, by.read, by.done, by.end, by.front, by.left, em)
+  copy_leaves entry m c before after left ending arms em by e ea = rw (e, ea, by.read, by.done, by.end, by.front, by.left, em)
 
 -- ---- the four ends
 module _ (k : CopyBlock) (read done : ℕ) (end : End) (entry : Drive) (r : Ending) where

@@ -63,7 +63,7 @@ held_valid Invalid a = refl
 held_valid (Valid p) a = refl
 
 row_hits : (b : Block) (reach : ℕ) (v : View)
-    → hits false (b.top || control_wrong false false b.control) (not v.present) (not (is_valid v.setting)) false
+    → hits false (b.top || control_wrong false false b.control) (not v.present) (not (is_valid v.setting)) v.travelling false
     (with_params v.setting (past_end b.address reach)) (v.pending && with_params v.setting (not_spared false b.address)) false false
     ≡ hits_of (row_for 0x20) b reach v 0 0
 unfolding hits_of row_for is_unknown block_wrong is_among check_number bytes_of
@@ -71,10 +71,11 @@ row_hits b reach v = refl
 
 pub copy_hits : (b : Block) (reach : ℕ) (v : View) → b.opcode ≡ 0x20 → {control wrong valid past pending : Bool} → control ≡ control_wrong false false b.control
     → wrong ≡ (b.top || control) → valid ≡ is_valid v.setting → past ≡ with_params v.setting (past_end b.address reach)
-    → pending ≡ (v.pending && valid) → hits false wrong (not v.present) (not valid) false past pending false false ≡ hits_of (row_for b.opcode) b reach v 0 0
+    → pending ≡ (v.pending && valid) → hits false wrong (not v.present) (not valid) v.travelling false past pending false false
+    ≡ hits_of (row_for b.opcode) b reach v 0 0
 copy_hits b reach v is ec ew ev ea ep =
     let pends = ap (λ (x : Bool). v.pending && x) (held_valid v.setting b.address) in
-    hits_same refl (ew ∙ ap (λ (x : Bool). b.top || x) ec) refl (ap not ev) refl ea (ep ∙ ap (λ (x : Bool). v.pending && x) ev ∙ pends) refl refl
+    hits_same refl (ew ∙ ap (λ (x : Bool). b.top || x) ec) refl (ap not ev) refl refl ea (ep ∙ ap (λ (x : Bool). v.pending && x) ev ∙ pends) refl refl
     ∙ row_hits b reach v ∙ ap (λ (opcode : ℕ). hits_of (row_for opcode) b reach v 0 0) (sym is)
 
 pub row_judged : (b : Block) (reach : ℕ) (v : View) {found : Hits} {verdict : Verdict} → found ≡ hits_of (row_for b.opcode) b reach v 0 0

@@ -1,4 +1,5 @@
 pub mod Ends
 pub mod Judges
 pub mod Obeys
+pub mod Rests
 pub mod Runs

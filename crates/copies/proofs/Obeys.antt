@@ -16,6 +16,7 @@ use Rattle.copying.specs.Listwise.{filled_by}
 use Rattle.model.specs.declared.block.CopyBlock.{CopyBlock}
 use Rattle.model.specs.declared.record.Drive.{Drive}
 use Rattle.model.specs.declared.record.Ending.{Ending}
+use Rattle.model.specs.declared.record.CopyEnding.{CopyEnding}
 use Rattle.model.specs.declared.verdict.View.{View}
 use Rattle.model.specs.declared.verdict.Verdict.{Verdict}
 use Rattle.model.specs.declared.verdict.Verdict.TheVariants.{Refused, Faulty, Passed}
@@ -23,6 +24,7 @@ use Rattle.model.specs.declared.verdict.Judgement.{Judgement}
 use Rattle.model.specs.Block.{count_of}
 use Rattle.model.specs.Checks.{on, judged, judge_over, judge, filling_of, shares, saying_of, judge_copy}
 use Rattle.model.specs.Record.{setting_in, refused, failed, unless_named}
+use Rattle.model.specs.Arm.{arms_still}
 use Rattle.model.specs.Copies.{CopyEffect, copy_effect, route_of, copy_left, copy_with}
 use Rattle.model.specs.Engine.{view_of, image_of, obey_copy}
 use Rattle.model.specs.Premises.{address_limit, WellFormed, OnDrives}
@@ -42,20 +44,26 @@ image_is images drive k e is = rw e (sym is)
 pub fourth : (drive : ℕ) → drive < 4 → (drive ≡ 0 → ⊥) → (drive ≡ 1 → ⊥) → (drive ≡ 2 → ⊥) → drive ≡ 3
 fourth drive h n₀ n₁ n₂ = omega arith
 
+-- an end before the first sector
+abbrev still : Ending → CopyEnding
+still ending = record { ending = ending; arms = arms_still }
+
 -- ---- by the parameters of both drives
 module _ (k : CopyBlock) (source : Drive) (buffer : List ℕ) (images : List (List ℕ)) where
-  pub none_copies : (from to : Setting) (r : Ending) → from ≡ Invalid → r ≡ failed k.from.drive k.from.drive 0x0A k.from.address 0 0 source
-      → copy_effect r buffer images ≡ copy_with k from to source buffer images
-  unfolding copy_with
-  none_copies from to r e er = rw (e, er)
+  module _ (ending : Ending) (r : CopyEnding) (er : r ≡ still ending) where
+    pub none_copies : (from to : Setting) → from ≡ Invalid → ending ≡ failed k.from.drive k.from.drive 0x0A k.from.address 0 0 source
+        → copy_effect r.ending r.arms buffer images ≡ copy_with k from to source buffer images
+    unfolding copy_with
+    none_copies from to e ee = rw (e, er, ee)
 
-  pub one_copies : (from to : Setting) (r : Ending) (p : Params) → from ≡ Valid p → to ≡ Invalid
-      → r ≡ failed k.from.drive k.to.drive 0x0A k.to.address 0 0 source → copy_effect r buffer images ≡ copy_with k from to source buffer images
-  unfolding copy_with
-  one_copies from to r p ef et er = rw (ef, et, er)
+    pub one_copies : (from to : Setting) (p : Params) → from ≡ Valid p → to ≡ Invalid
+        → ending ≡ failed k.from.drive k.to.drive 0x0A k.to.address 0 0 source
+        → copy_effect r.ending r.arms buffer images ≡ copy_with k from to source buffer images
+    unfolding copy_with
+    one_copies from to p ef et ee = rw (ef, et, er, ee)
 
   pub both_copy : (from to : Setting) (p q : Params) (x : CopyEffect) → from ≡ Valid p → to ≡ Valid q
-      → x ≡ copy_left k source buffer (copied (route_of k p q) (count_of k.from) images) → x ≡ copy_with k from to source buffer images
+      → x ≡ copy_left k (route_of k p q) source buffer (copied (route_of k p q) (count_of k.from) images) → x ≡ copy_with k from to source buffer images
   unfolding copy_with
   both_copy from to p q x ef et ex = rw (ef, et) ex
 
@@ -145,15 +153,16 @@ module _ (k : CopyBlock) (source target : Drive) (images : List (List ℕ)) (rea
 
     -- ---- what is left
     module _ (buffer : List ℕ) where
-      pub copy_refused : (r : Ending) (number : ℕ) → said.verdict ≡ Refused number → r ≡ refused number source
-          → copy_effect r buffer images ≡ obey_copy k source target buffer images
-      unfolding obey_copy unless_named
-      copy_refused r number e er = rw (← said_is, e, er)
+      module _ (ending : Ending) (r : CopyEnding) (er : r ≡ still ending) where
+        pub copy_refused : (number : ℕ) → said.verdict ≡ Refused number → ending ≡ refused number source
+            → copy_effect r.ending r.arms buffer images ≡ obey_copy k source target buffer images
+        unfolding obey_copy unless_named
+        copy_refused number e ee = rw (← said_is, e, er, ee)
 
-      pub copy_failed : (r : Ending) (code : ℕ) (at : Lba) → said.verdict ≡ Faulty code at → r ≡ failed k.from.drive said.named code at 0 0 source
-          → copy_effect r buffer images ≡ obey_copy k source target buffer images
-      unfolding obey_copy unless_named
-      copy_failed r code at e er = rw (← said_is, e, er)
+        pub copy_failed : (code : ℕ) (at : Lba) → said.verdict ≡ Faulty code at → ending ≡ failed k.from.drive said.named code at 0 0 source
+            → copy_effect r.ending r.arms buffer images ≡ obey_copy k source target buffer images
+        unfolding obey_copy unless_named
+        copy_failed code at e ee = rw (← said_is, e, er, ee)
 
       pub copy_carried : (x : CopyEffect) → said.verdict ≡ Passed → x ≡ copy_with k seen_from.setting seen_to.setting source buffer images
           → x ≡ obey_copy k source target buffer images

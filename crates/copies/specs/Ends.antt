@@ -1,9 +1,18 @@
 -- What is known of a copy that has ended: its counts and addresses fit the answer, and its codes the sense.
 use Rattle.std.specs.Prelude.{ℕ, ◌+◌, ◌≤◌, ◌<◌, ◌≡◌}
+use Rattle.geometry.specs.Params.{Within, address_count}
+use Rattle.copying.specs.declared.route.Route.{Route}
 use Rattle.copying.specs.declared.route.Copied.{Copied}
 use Rattle.copying.specs.declared.route.End.TheVariants.{SourceFault, TargetFault, Short}
 use Rattle.model.specs.declared.block.CopyBlock.{CopyBlock}
 use Rattle.model.specs.Premises.{address_limit, WellFormed}
+
+-- What has been read and written is on the drives.
+pub record CanRest (r : Route) (c : Copied) : Type 0 where
+  pub source_within : Within r.p
+  pub target_within : Within r.q
+  pub source_on : r.a.0 + c.read ≤ address_count r.p
+  pub target_on : r.b.0 + c.done ≤ address_count r.q
 
 pub record CanEnd (k : CopyBlock) (c : Copied) : Type 0 where
   pub from : WellFormed k.from

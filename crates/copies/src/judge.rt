@@ -74,6 +74,7 @@ fn copy_hits(b: Block, reach: usize, view: View) -> Hits
         wrong: either(b.top, control_wrong(false, false, b.control)),
         absent: !view.present,
         unset: !valid,
+        travelling: view.travelling,
         interleave: false,
         past: past_end(b.address, reach, setting),
         pending: both(view.pending, valid),

@@ -5,13 +5,13 @@ ghost use Rattle.geometry.specs.Medium.{medium_of};
 ghost use Rattle.model.specs.Engine.{view_of, images_of, image_of, obey_copy};
 ghost use Rattle.copies.specs.Ready.{Copyable, TwoDrives};
 
-use crate::copy::copy;
+use crate::copy::{copy, unmoved};
 use crate::judge::judge_copy;
 use drives::view::view_of;
 use endings::ending::{failed, refused};
 use geometry::config::Setting;
 use model::block::CopyBlock;
-use model::record::{Drive, Ending};
+use model::record::{CopyEnding, Drive};
 use model::verdict::{Verdict, View};
 
 // The length of a drive's image.
@@ -62,24 +62,24 @@ fn copy_with(
     image1: &mut [u8],
     image2: &mut [u8],
     image3: &mut [u8],
-) -> Ending
+) -> CopyEnding
     requires { Copyable k from to (images_of image0.old image1.old image2.old image3.old) × (length buffer.old ≡ 512) }
-    ensures { copy_effect result buffer.new (images_of image0.new image1.new image2.new image3.new)
+    ensures { copy_effect result.ending result.arms buffer.new (images_of image0.new image1.new image2.new image3.new)
         ≡ copy_with k from to source buffer.old
         (images_of image0.old image1.old image2.old image3.old) }
 {
     let a = k.from;
     let b = k.to;
     match from {
-        Setting::Invalid => failed(source, a.drive, a.drive, 0x0A, a.address, 0, 0),
+        Setting::Invalid => unmoved(failed(source, a.drive, a.drive, 0x0A, a.address, 0, 0)),
         Setting::Valid(p) => match to {
-            Setting::Invalid => failed(source, a.drive, b.drive, 0x0A, b.address, 0, 0),
+            Setting::Invalid => unmoved(failed(source, a.drive, b.drive, 0x0A, b.address, 0, 0)),
             Setting::Valid(q) => copy(source, k, p, q, buffer, image0, image1, image2, image3),
         },
     }
 }
 
-// A Copy, on the entries of the two drives that it names and the images. What comes back is the source drive's.
+// A Copy, on the entries of the two drives that it names and the images. What comes back is the source drive's, and both arms.
 pub fn obey_copy(
     source: Drive,
     target: Drive,
@@ -89,9 +89,9 @@ pub fn obey_copy(
     image1: &mut [u8],
     image2: &mut [u8],
     image3: &mut [u8],
-) -> Ending
+) -> CopyEnding
     requires { TwoDrives k source target × (length buffer.old ≡ 512) }
-    ensures { copy_effect result buffer.new (images_of image0.new image1.new image2.new image3.new)
+    ensures { copy_effect result.ending result.arms buffer.new (images_of image0.new image1.new image2.new image3.new)
         ≡ obey_copy k source target buffer.old
         (images_of image0.old image1.old image2.old image3.old) }
 {
@@ -105,8 +105,8 @@ pub fn obey_copy(
     let named = said.named;
     let verdict = said.verdict;
     match verdict {
-        Verdict::Refused(number) => refused(source, number),
-        Verdict::Faulty(code, at) => failed(source, a.drive, named, code, at, 0, 0),
+        Verdict::Refused(number) => unmoved(refused(source, number)),
+        Verdict::Faulty(code, at) => unmoved(failed(source, a.drive, named, code, at, 0, 0)),
         Verdict::Passed => copy_with(source, k, from, to, buffer, image0, image1, image2, image3),
     }
 }

@@ -2,7 +2,7 @@
 use mathlib.Core.Path.{◌≡◌, refl, sym, ap, ◌∙◌}
 use mathlib.Core.Bool.{Bool, true, false}
 use mathlib.Core.List.{List, ◌++◌}
-use Prim.Native.Nat.{ℕ, ◌+◌, ◌*◌, ◌/◌, ◌%◌, ◌≤◌, ◌<◌}
+use Prim.Native.Nat.{ℕ, suc, ◌+◌, ◌*◌, ◌/◌, ◌%◌, ◌≤◌, ◌<◌, min}
 use native.Mathlib.Omega.{arith}
 use native.Mathlib.Decide.{dec_lt}
 use native.Mathlib.Nat.{suc-mul, mod-lt, div-add-mod'}
@@ -84,6 +84,14 @@ module _ (r : Route) (n : ℕ) (images : List (List ℕ)) (fit : Fitting r n ima
   read_so_far e =
       let all = writing_all r.q m r.b T given e in
       pick-false _ _ _ (le-ltb w.done m (omega (arith, all)))
+
+  -- where it is not, the sectors needed up to the one that failed
+  pub read_needed : (w.code ≡ 0 → ⊥) → read_of r n x w ≡ min n (filled_by (suc w.done) r.q.size r.p.size)
+  unfolding read_of
+  read_needed ne =
+      let most = writing_most r.q m r.b T given in
+      let short : w.done ≡ m → ⊥ = λ e. ne (writing_whole r.q m r.b T given e) in
+      pick_true _ _ _ (lt-ltb w.done m (omega (arith, most, short)))
 
 -- ---- A Copy that ended well has read all its source, and all its bytes are in the sectors done.
 pub record GoneWhole (r : Route) (n : ℕ) (images : List (List ℕ)) : Type 0 where

@@ -5,7 +5,7 @@
 pub use Rattle.copying.proofs.AtOnce.{copied_listwise}
 -- how it ended, by the codes of the Read and the Write
 unfoldable pub use Rattle.copying.proofs.Codes.{end_by_codes}
-pub use Rattle.copying.proofs.Codes.{read_all_lem, read_whole, read_so_far, end_by_codes_lem}
+pub use Rattle.copying.proofs.Codes.{read_all_lem, read_whole, read_so_far, read_needed, end_by_codes_lem}
 -- one that ended well, or with its last sector filled in part, has read all its source, and all its bytes are in the sectors done
 pub use Rattle.copying.proofs.Codes.{GoneWhole, going_whole, GoneShort, short_whole}
 -- the length of what is read; the Write has its bytes and lies on the drive, as the laws of `writing` in contents ask

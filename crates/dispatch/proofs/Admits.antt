@@ -1,12 +1,13 @@
 -- What passed checks give to each command: what its function asks for.
-use Prim.Native.Nat.{ℕ, ◌*◌, ◌≤◌}
-use mathlib.Core.Path.{◌≡◌, refl, ap, subst, ◌∙◌}
+use Prim.Native.Nat.{ℕ, ◌+◌, ◌*◌, ◌≤◌}
+use mathlib.Core.Path.{◌≡◌, refl, sym, ap, subst, ◌∙◌}
 use mathlib.Core.List.{List}
 use native.Mathlib.Omega.{arith}
 use lib.ListN.{length}
 use Rattle.geometry.specs.declared.params.Params.{Params}
 use Rattle.geometry.specs.declared.config.Setting.{Setting}
 use Rattle.geometry.specs.declared.config.Setting.TheVariants.{Valid}
+use Rattle.geometry.specs.Params.{address_count}
 use Rattle.geometry.specs.Medium.{medium_of}
 use Rattle.geometry.proofs.Settings.{setting_within}
 use Rattle.track.specs.Image.{Fits}
@@ -16,21 +17,27 @@ use Rattle.model.specs.declared.table.Command.TheVariants.{Free, OnDisk}
 use Rattle.model.specs.declared.table.FreeCommand.{FreeCommand}
 use Rattle.model.specs.declared.table.FreeCommand.TheVariants.{RequestSense, WriteBuffer, ReadBuffer, Initialize}
 use Rattle.model.specs.declared.table.DiskCommand.{DiskCommand}
-use Rattle.model.specs.declared.table.DiskCommand.TheVariants.{TrackWork, SectorWork}
+use Rattle.model.specs.declared.table.DiskCommand.TheVariants.{ArmWork, TrackWork, SectorWork}
+use Rattle.model.specs.declared.table.ArmCommand.{ArmCommand}
+use Rattle.model.specs.declared.table.ArmCommand.TheVariants.{TestReady, Recalibrate, Seek}
 use Rattle.model.specs.declared.table.TrackCommand.{TrackCommand}
 use Rattle.model.specs.declared.table.TrackCommand.TheVariants.{FormatDrive, CheckTrack, FormatTrack, FormatBadTrack, AssignAlternate}
 use Rattle.model.specs.declared.table.SectorCommand.{SectorCommand}
 use Rattle.model.specs.declared.table.SectorCommand.TheVariants.{Read, Write}
 use Rattle.model.specs.declared.record.Drive.{Drive}
+use Rattle.model.specs.declared.record.Answer.{Answer}
 use Rattle.model.specs.Block.{count_of}
 use Rattle.model.specs.Table.{check_number, is_among, TableRow, row_for}
 use Rattle.model.specs.Checks.{size_in, bytes_of}
 use Rattle.model.specs.Record.{setting_in}
+use Rattle.model.specs.Commands.{do_sectors, do_disk}
 use Rattle.model.specs.Engine.{view_of}
 use Rattle.model.specs.Premises.{OnTrack}
 use Rattle.model.proofs.engine.Checked.{opcode_for, row_of, Cleared, cleared, given_enough, area_enough, interleave_in, track_cleared, count_cleared}
 use Rattle.model.proofs.engine.Known.{setting_known}
-use Rattle.dispatch.specs.Ready.{Admitted, FreeReady, TrackReady, SectorReady}
+use Rattle.endings.specs.Left.{Left, left_by}
+use Rattle.transfers.proofs.Counts.{read_counts, write_counts}
+use Rattle.dispatch.specs.Ready.{Admitted, FreeReady, ArmReady, TrackReady, CanRest, SectorReady}
 
 -- the row of a command, by an opcode that has it
 row : (b : Block) (command : Command) → (row_for b.opcode).command ≡ command → row_for b.opcode ≡ row_for (opcode_for command)
@@ -40,12 +47,18 @@ row b command is = row_of b.opcode ∙ ap (λ (k : Command). row_for (opcode_for
 pub free_as : (command k : FreeCommand) (given area : ℕ) → command ≡ k → FreeReady command given area → FreeReady k given area
 free_as command k given area is ready = subst (λ (x : FreeCommand). FreeReady x given area) is ready
 
+pub arm_as : (command k : ArmCommand) (b : Block) (p : Params) → command ≡ k → ArmReady command b p → ArmReady k b p
+arm_as command k b p is ready = subst (λ (x : ArmCommand). ArmReady x b p) is ready
+
 pub track_as : (command k : TrackCommand) (given : ℕ) → command ≡ k → TrackReady command given → TrackReady k given
 track_as command k given is ready = subst (λ (x : TrackCommand). TrackReady x given) is ready
 
 pub sector_as : (command k : SectorCommand) (b : Block) (p : Params) (image : List ℕ) (given area : ℕ) → command ≡ k
     → SectorReady command b p image given area → SectorReady k b p image given area
 sector_as command k b p image given area is ready = subst (λ (x : SectorCommand). SectorReady x b p image given area) is ready
+
+pub rest_as : (command k : DiskCommand) (b : Block) (p : Params) (answer : Answer) → command ≡ k → CanRest command b p answer → CanRest k b p answer
+rest_as command k b p answer is can = subst (λ (x : DiskCommand). CanRest x b p answer) is can
 
 -- ---- lengths of data
 module _ {b : Block} {entry : Drive} {given area image : ℕ} (ok : Admitted b entry given area image) where
@@ -85,6 +98,13 @@ module _ {b : Block} {entry : Drive} {given area : ℕ} (image : List ℕ) {p : 
   clear command is =
       subst (λ (e : TableRow). Cleared e b p entry.pending given) (row b (OnDisk command) is)
       (cleared b (view_of (medium_of b.drive) entry (length image)) given area ok.passed p valid)
+
+  -- a Seek has the check of address, and no count
+  pub arm_admits : (command : ArmCommand) → (row_for b.opcode).command ≡ OnDisk (ArmWork command) → ArmReady command b p
+  unfolding ArmReady row_for opcode_for is_among check_number
+  arm_admits TestReady is = omega arith
+  arm_admits Recalibrate is = omega arith
+  arm_admits Seek is = (fits.within, track_cleared fits.within (clear (ArmWork Seek) is) refl refl)
 
   -- every track command has the checks of address and interleave, and no count
   pub track_admits : (command : TrackCommand) → (row_for b.opcode).command ≡ OnDisk (TrackWork command) → OnTrack b p image × TrackReady command given
@@ -131,3 +151,25 @@ module _ {b : Block} {entry : Drive} {given area : ℕ} (image : List ℕ) {p : 
     inside = count_cleared fits.within (clear (SectorWork Write) is) refl refl;
     enough = room given (takes ok (OnDisk (SectorWork Write)) is);
   }
+
+  -- ---- where the arm is left is on the drive
+  module _ (given₀ buffer : List ℕ) where
+    sectors_rest : (command : SectorCommand) → (row_for b.opcode).command ≡ OnDisk (SectorWork command)
+        → b.address.0 + (do_sectors b p given₀ entry buffer image command).ending.answer.sectors ≤ address_count p
+    unfolding do_sectors SectorReady
+    sectors_rest Read is =
+        let h = (sector_admits Read is).inside in omega (arith, h, read_counts b p entry buffer image fits h)
+    sectors_rest Write is =
+        let h = (sector_admits Write is).inside in omega (arith, h, write_counts b p entry buffer image given₀)
+
+    rests : (command : DiskCommand) → (row_for b.opcode).command ≡ OnDisk command
+        → CanRest command b p (do_disk b p given₀ entry buffer image command).ending.answer
+    unfolding CanRest do_disk
+    rests (ArmWork command) is = ok.block
+    rests (TrackWork command) is = (ok.block, fits.within, (track_admits command is).0.track)
+    rests (SectorWork command) is = (ok.block, fits.within, sectors_rest command is)
+
+    pub disk_rests : (command : DiskCommand) → (row_for b.opcode).command ≡ OnDisk command → (x : Left) (area₀ : List ℕ)
+        → x ≡ left_by (do_disk b p given₀ entry buffer image command) area₀ → CanRest command b p x.ending.answer
+    unfolding left_by
+    disk_rests command is x area₀ e = subst (CanRest command b p) (sym (ap (λ (y : Left). y.ending.answer) e)) (rests command is)

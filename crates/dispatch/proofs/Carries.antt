@@ -1,12 +1,16 @@
 -- What a command's function leaves is what the command leaves.
 use Prim.Native.Nat.{ℕ}
-use mathlib.Core.Path.{◌≡◌, refl}
+use mathlib.Core.Path.{◌≡◌, refl, ap}
 use mathlib.Core.List.{List, []}
 use lib.ListN.{length}
 use Rattle.base.specs.Part.{part, splice}
 use Rattle.geometry.specs.declared.params.Params.{Params}
+use Rattle.geometry.specs.declared.params.Track.{Track}
+use Rattle.geometry.specs.declared.medium.Medium.{Medium}
 use Rattle.geometry.specs.declared.config.Setting.{Setting}
 use Rattle.geometry.specs.declared.config.Setting.TheVariants.{Valid, Invalid}
+use Rattle.geometry.specs.Params.{track_of, cylinder_of}
+use Rattle.geometry.specs.Medium.{medium_of}
 use Rattle.model.specs.declared.block.Block.{Block}
 use Rattle.model.specs.declared.table.Command.{Command}
 use Rattle.model.specs.declared.table.Command.TheVariants.{Free, OnDisk, Copy, Unknown}
@@ -20,8 +24,9 @@ use Rattle.model.specs.declared.table.TrackCommand.{TrackCommand}
 use Rattle.model.specs.declared.table.SectorCommand.{SectorCommand}
 use Rattle.model.specs.declared.record.Drive.{Drive}
 use Rattle.model.specs.declared.record.Ending.{Ending}
-use Rattle.model.specs.Record.{good_answer, good, failed, Effect, effect, Made, made}
-use Rattle.model.specs.Commands.{initialize, do_free, do_arm, do_track, do_sectors, as_effect, do_disk, carry_out}
+use Rattle.model.specs.Record.{good_answer, good, failed, Effect, effect, area_after, Made, made}
+use Rattle.model.specs.Arm.{sought, last_done, left_at}
+use Rattle.model.specs.Commands.{initialize, do_free, do_arm, do_track, do_sectors, as_effect, do_disk, arm_left, carry_out}
 use Rattle.endings.specs.Left.{Left, left_now, left_by}
 
 -- Where nothing is handed over the data area stays.
@@ -52,12 +57,21 @@ module _ (b : Block) (given : List ℕ) (entry : Drive) (buffer area image : Lis
   initialize_carries is er = rw is (left_unhanded _ r buffer area image (rw er))
 
 -- ---- parameters in force
--- the arm's, the same for each
-pub arm_carries : (b : Block) (entry : Drive) (command : ArmCommand) (r : Ending) → r ≡ good b.drive 0 0 entry → r ≡ do_arm b entry command
-unfolding do_arm
-arm_carries b entry TestReady r e = e
-arm_carries b entry Recalibrate r e = e
-arm_carries b entry Seek r e = e
+-- the arm's
+module _ (b : Block) (p : Params) (entry : Drive) (command : ArmCommand) (r : Ending) where
+  pub ready_carries : command ≡ TestReady → r ≡ good b.drive 0 0 entry → r ≡ do_arm b p entry command
+  unfolding do_arm
+  ready_carries is er = rw is er
+
+  module _ (medium : Medium) (of : medium ≡ medium_of b.drive) (next : Drive) (er : r ≡ good b.drive 0 0 next) where
+    pub home_carries : command ≡ Recalibrate → next ≡ sought medium 0 entry → r ≡ do_arm b p entry command
+    unfolding do_arm
+    home_carries is en = rw (is, er, en, of)
+
+    pub seek_carries : command ≡ Seek → (t : Track) → t ≡ track_of p b.address → (cylinder : ℕ) → cylinder ≡ cylinder_of p t
+        → next ≡ sought medium cylinder entry → r ≡ do_arm b p entry command
+    unfolding do_arm
+    seek_carries is t et cylinder ec en = rw (is, er, en, ec, et, of)
 
 -- an ending, with the image as it was
 pub checked : (r s : Ending) {image : List ℕ} → r ≡ s → made r image ≡ made s image
@@ -74,7 +88,7 @@ module _ (b : Block) (p : Params) (given : List ℕ) (entry : Drive) (buffer are
   sectors_carry command k x is e = rw is e
 
   module _ (command : DiskCommand) (r : Ending) where
-    pub on_arm : (w : ArmCommand) → command ≡ ArmWork w → r ≡ do_arm b entry w
+    pub on_arm : (w : ArmCommand) → command ≡ ArmWork w → r ≡ do_arm b p entry w
         → left_now r buffer area image ≡ left_by (do_disk b p given entry buffer image command) area
     unfolding do_disk
     on_arm w is er = rw is (left_unhanded _ r buffer area image (rw er))
@@ -89,10 +103,23 @@ module _ (b : Block) (p : Params) (given : List ℕ) (entry : Drive) (buffer are
   unfolding do_disk
   on_sectors_lem command w x is e = rw is e
 
+-- the arm is left, all else stays
+pub arm_carries : (b : Block) (p : Params) (command : DiskCommand) (e : Effect) (ending r : Ending) (buffer area₀ area image : List ℕ)
+    → left_now ending buffer area image ≡ left_by e area₀
+    → r ≡ record { entry = left_at p (last_done command b p ending.answer) ending.entry; answer = ending.answer }
+    → left_now r buffer area image ≡ left_by (arm_left b p command e) area₀
+unfolding arm_left left_by
+arm_carries b p command e ending r buffer area₀ area image h er =
+    let ee : ending ≡ e.ending = ap (λ (x : Left). x.ending) h in
+    let eb : buffer ≡ e.buffer = ap (λ (x : Left). x.buffer) h in
+    let ea : area ≡ area_after e area₀ = ap (λ (x : Left). x.area) h in
+    let ei : image ≡ e.image = ap (λ (x : Left). x.image) h in
+    rw (er, ee, eb, ea, ei) refl
+
 -- ---- any command
 module _ (b : Block) (setting : Setting) (given : List ℕ) (entry : Drive) (buffer area image : List ℕ) where
   pub valid_carries : (p : Params) (command : DiskCommand) (x : Left) → setting ≡ Valid p
-      → x ≡ left_by (do_disk b p given entry buffer image command) area → x ≡ left_by (carry_out b setting given entry buffer image (OnDisk command)) area
+      → x ≡ left_by (arm_left b p command (do_disk b p given entry buffer image command)) area → x ≡ left_by (carry_out b setting given entry buffer image (OnDisk command)) area
   unfolding carry_out
   valid_carries p command x is e = rw is e
 

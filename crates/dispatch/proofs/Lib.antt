@@ -1,3 +1,4 @@
 pub mod Admits
 pub mod Carries
 pub mod Obeys
+pub mod Rests

@@ -1,15 +1,21 @@
 -- What the checks have shown of a command: what its function asks for.
-use Rattle.std.specs.Prelude.{ℕ, ◌≤◌, ◌≡◌, List}
+use Rattle.std.specs.Prelude.{ℕ, ◌+◌, ◌≤◌, ◌<◌, ◌≡◌, List}
 use Rattle.geometry.specs.declared.params.Params.{Params}
+use Rattle.geometry.specs.Params.{Within, track_count, track_of, address_count}
 use Rattle.geometry.specs.Medium.{medium_of}
 use Rattle.model.specs.declared.block.Block.{Block}
 use Rattle.model.specs.declared.table.FreeCommand.{FreeCommand}
 use Rattle.model.specs.declared.table.FreeCommand.TheVariants.{RequestSense, WriteBuffer, ReadBuffer, Initialize}
+use Rattle.model.specs.declared.table.DiskCommand.{DiskCommand}
+use Rattle.model.specs.declared.table.DiskCommand.TheVariants.{ArmWork, TrackWork, SectorWork}
+use Rattle.model.specs.declared.table.ArmCommand.{ArmCommand}
+use Rattle.model.specs.declared.table.ArmCommand.TheVariants.{TestReady, Recalibrate, Seek}
 use Rattle.model.specs.declared.table.TrackCommand.{TrackCommand}
 use Rattle.model.specs.declared.table.TrackCommand.TheVariants.{FormatDrive, CheckTrack, FormatTrack, FormatBadTrack, AssignAlternate}
 use Rattle.model.specs.declared.table.SectorCommand.{SectorCommand}
 use Rattle.model.specs.declared.table.SectorCommand.TheVariants.{Read, Write}
 use Rattle.model.specs.declared.record.Drive.{Drive}
+use Rattle.model.specs.declared.record.Answer.{Answer}
 use Rattle.model.specs.declared.verdict.Verdict.TheVariants.{Passed}
 use Rattle.model.specs.Checks.{judge}
 use Rattle.model.specs.Engine.{view_of}
@@ -27,12 +33,24 @@ FreeReady WriteBuffer given area = 512 ≤ given
 FreeReady ReadBuffer given area = 512 ≤ area
 FreeReady Initialize given area = 10 ≤ given
 
+-- A Seek's track is on the drive.
+unfoldable pub ArmReady : ArmCommand → Block → Params → Type 0
+ArmReady TestReady b p = 0 ≤ track_count p
+ArmReady Recalibrate b p = 0 ≤ track_count p
+ArmReady Seek b p = Within p × ((track_of p b.address).0 < track_count p)
+
 unfoldable pub TrackReady : TrackCommand → (given : ℕ) → Type 0
 TrackReady FormatDrive given = 0 ≤ given
 TrackReady CheckTrack given = 0 ≤ given
 TrackReady FormatTrack given = 0 ≤ given
 TrackReady FormatBadTrack given = 0 ≤ given
 TrackReady AssignAlternate given = 3 ≤ given
+
+-- What has been done is on the drive: the track of a command of tracks, the sectors counted of a transfer.
+unfoldable pub CanRest : DiskCommand → Block → Params → Answer → Type 0
+CanRest (ArmWork command) b p answer = WellFormed b
+CanRest (TrackWork command) b p answer = WellFormed b × Within p × ((track_of p b.address).0 < track_count p)
+CanRest (SectorWork command) b p answer = WellFormed b × Within p × (b.address.0 + answer.sectors ≤ address_count p)
 
 unfoldable pub SectorReady : SectorCommand → Block → Params → (image : List ℕ) → (given area : ℕ) → Type 0
 SectorReady Read b p image given area = OnSectors b p image area

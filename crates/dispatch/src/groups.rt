@@ -4,14 +4,16 @@ ghost use Rattle.model.specs.Record.{made};
 ghost use Rattle.model.specs.Commands.{do_free, do_arm, do_track, do_sectors};
 ghost use Rattle.model.specs.Premises.{WellFormed, OnTrack};
 ghost use Rattle.endings.specs.Left.{left_now, left_by};
-ghost use Rattle.dispatch.specs.Ready.{FreeReady, TrackReady, SectorReady};
+ghost use Rattle.dispatch.specs.Ready.{FreeReady, ArmReady, TrackReady, SectorReady};
 
 use alternates::assign::assign_alternate;
+use drives::arm::seek;
 use drives::initialize::initialize;
 use endings::buffer::{read_buffer, request_sense, write_buffer};
 use endings::ending::good;
 use formats::check::check_track;
 use formats::format::{format_bad, format_drive, format_sound};
+use geometry::medium::medium_of;
 use geometry::params::Params;
 use model::block::Block;
 use model::record::{Drive, Ending};
@@ -42,16 +44,20 @@ pub fn do_free(
     }
 }
 
-// Checks only.
-pub fn do_arm(entry: Drive, b: Block, command: ArmCommand) -> Ending
-    requires { WellFormed b }
-    ensures { result ≡ do_arm b entry command }
+// Test Ready has done with its checks; the others move the arm.
+pub fn do_arm(entry: Drive, b: Block, p: Params, command: ArmCommand) -> Ending
+    requires { WellFormed b × ArmReady command b p }
+    ensures { result ≡ do_arm b p entry command }
 {
     let drive = b.drive;
+    let medium = medium_of(drive);
     match command {
         ArmCommand::TestReady => good(entry, drive, 0, 0),
-        ArmCommand::Recalibrate => good(entry, drive, 0, 0),
-        ArmCommand::Seek => good(entry, drive, 0, 0),
+        ArmCommand::Recalibrate => good(seek(entry, medium, 0), drive, 0, 0),
+        ArmCommand::Seek => {
+            let cylinder = p.cylinder_of(p.track_of(b.address));
+            good(seek(entry, medium, cylinder), drive, 0, 0)
+        }
     }
 }
 

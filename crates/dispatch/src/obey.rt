@@ -5,12 +5,13 @@ ghost use Rattle.geometry.specs.Medium.{medium_of};
 ghost use Rattle.model.specs.declared.table.Command.TheVariants.{OnDisk};
 ghost use Rattle.model.specs.Table.{row_for};
 ghost use Rattle.model.specs.Record.{setting_in};
-ghost use Rattle.model.specs.Commands.{do_disk, carry_out};
+ghost use Rattle.model.specs.Commands.{do_disk, arm_left, carry_out};
 ghost use Rattle.model.specs.Engine.{obey};
 ghost use Rattle.model.specs.Premises.{WellFormed};
 ghost use Rattle.endings.specs.Left.{left_now, left_by};
 ghost use Rattle.dispatch.specs.Ready.{Admitted};
 
+use crate::arm::leave_arm;
 use crate::groups::{do_arm, do_free, do_sectors, do_track};
 use checks::order::judge;
 use drives::view::view_of;
@@ -41,10 +42,31 @@ fn do_disk(
         ≡ left_by (do_disk b p given.now entry buffer.old image.old command) area.old }
 {
     match command {
-        DiskCommand::ArmWork(work) => do_arm(entry, b, work),
+        DiskCommand::ArmWork(work) => do_arm(entry, b, p, work),
         DiskCommand::TrackWork(work) => do_track(entry, b, p, buffer, given, image, work),
         DiskCommand::SectorWork(work) => do_sectors(entry, b, p, buffer, given, area, image, work),
     }
+}
+
+// Then the arm.
+fn do_armed(
+    entry: Drive,
+    b: Block,
+    p: Params,
+    buffer: &mut [u8],
+    given: &[u8],
+    area: &mut [u8],
+    image: &mut [u8],
+    command: DiskCommand,
+) -> Ending
+    requires { Admitted b entry (length given.now) (length area.old) (length image.old)
+        × ((row_for b.opcode).command ≡ OnDisk command)
+        × (setting_in (medium_of b.drive) entry (length image.old) ≡ Valid p) × (length buffer.old ≡ 512) }
+    ensures { left_now result buffer.new area.new image.new
+        ≡ left_by (arm_left b p command (do_disk b p given.now entry buffer.old image.old command)) area.old }
+{
+    let ending = do_disk(entry, b, p, buffer, given, area, image, command);
+    leave_arm(ending, b, p, command)
 }
 
 // The same where there may be none in force, which the order of checks has asked before.
@@ -65,7 +87,7 @@ fn with_setting(
         ≡ left_by (carry_out b setting given.now entry buffer.old image.old (OnDisk command)) area.old }
 {
     match setting {
-        Setting::Valid(p) => do_disk(entry, b, p, buffer, given, area, image, command),
+        Setting::Valid(p) => do_armed(entry, b, p, buffer, given, area, image, command),
         Setting::Invalid => failed(entry, b.drive, b.drive, 0x0A, b.address, 0, 0),
     }
 }

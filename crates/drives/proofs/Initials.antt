@@ -1,5 +1,5 @@
 -- What Initialize leaves, by whether the label holds its bytes and by whether others may come in.
-use mathlib.Core.Path.{◌≡◌}
+use mathlib.Core.Path.{◌≡◌, refl, ◌∙◌}
 use mathlib.Core.Bool.{Bool, true, false, not, ◌&&◌, ◌||◌}
 use mathlib.Core.List.{List}
 use Prim.Native.Nat.{ℕ, ◌+◌, ◌*◌}
@@ -19,6 +19,7 @@ use Rattle.model.specs.declared.block.Block.{Block}
 use Rattle.model.specs.declared.record.Drive.{Drive}
 use Rattle.model.specs.declared.record.Ending.{Ending}
 use Rattle.model.specs.Record.{failed, good}
+use Rattle.model.specs.Arm.{arrived}
 use Rattle.model.specs.Commands.{initialized, initialized_by, initialize}
 
 -- ---- The bound
@@ -42,6 +43,17 @@ module _ (medium : Medium) (config : List ℕ) (image : ℕ) (setting : Setting)
   enter_valid p e bound eb = rw (← is, e, eb)
 
 -- ---- What is left
+-- The entry with its arm where it was.
+abbrev pub in_force : (config : List ℕ) → (pending : Bool) → Drive → Drive
+in_force config pending entry = record {
+  sense = entry.sense;
+  config = config;
+  known = true;
+  pending = pending;
+  target = entry.target;
+  way = entry.way;
+}
+
 module _ (b : Block) (given : List ℕ) (entry : Drive) (image config : List ℕ) (medium : Medium) (held fits taken : Bool) (r : Ending)
     (ten : config ≡ part 0 10 given) (of : medium ≡ medium_of b.drive) (label : held ≡ label_holds medium image config)
     (may : fits ≡ (is_valid (setting_of medium config (length image)) && precompensation_in medium config)) (is : taken ≡ (held || fits)) where
@@ -49,7 +61,15 @@ module _ (b : Block) (given : List ℕ) (entry : Drive) (image config : List ℕ
   unfolding initialize initialized_by pick
   initialize_failed e o = rw (o, ← ten, ← of, ← label, ← may, test_off taken (held || fits) is e)
 
-  pub initialize_taken : not taken ≡ false → r ≡ good b.drive 0 0 (record { sense = entry.sense; config = config; known = true; pending = not held })
-      → r ≡ initialize b given entry image
-  unfolding initialize initialized_by initialized pick
+  initialize_taken : not taken ≡ false → r ≡ good b.drive 0 0 (initialized config (not held) entry) → r ≡ initialize b given entry image
+  unfolding initialize initialized_by pick
   initialize_taken e o = rw (o, ← ten, ← of, ← label, ← may, test_on taken (held || fits) is e)
+
+  pub initialize_held : not taken ≡ false → held ≡ true → r ≡ good b.drive 0 0 (in_force config (not held) entry) → r ≡ initialize b given entry image
+  unfolding initialized pick
+  initialize_held e h o = initialize_taken e (o ∙ rw h refl)
+
+  pub initialize_other : not taken ≡ false → held ≡ false → (next : Drive) → next ≡ arrived 0 (in_force config (not held) entry)
+      → r ≡ good b.drive 0 0 next → r ≡ initialize b given entry image
+  unfolding initialized arrived pick
+  initialize_other e h next en o = initialize_taken e (o ∙ rw (en, h) refl)

@@ -3,6 +3,7 @@ use mathlib.Core.Path.{◌≡◌}
 use mathlib.Core.Bool.{true, false}
 use mathlib.Core.List.{List, [], ◌∷◌}
 use Prim.Native.Nat.{ℕ}
+use lib.IntN.{pos}
 use Rattle.geometry.specs.declared.params.Params.{Params}
 use Rattle.geometry.specs.declared.medium.Medium.{Medium}
 use Rattle.geometry.specs.declared.config.Setting.{Setting}
@@ -19,6 +20,6 @@ module _ (drive : ℕ) (image : List ℕ) (medium : Medium) (setting : Setting) 
   load_invalid e = rw (← of, ← is, e)
 
   pub load_valid : (p : Params) → setting ≡ Valid p → (config : List ℕ) → config ≡ label_config image
-      → ◌≡◌ {A = Drive} (record { sense = 0 ∷ 0 ∷ 0 ∷ 0 ∷ []; config = config; known = true; pending = false }) (loaded drive image)
+      → ◌≡◌ {A = Drive} (record { sense = 0 ∷ 0 ∷ 0 ∷ 0 ∷ []; config = config; known = true; pending = false; target = 0; way = pos 0 }) (loaded drive image)
   unfolding loaded loaded_by
   load_valid p e config h = rw (← of, ← is, e, h)

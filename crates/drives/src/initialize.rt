@@ -4,6 +4,7 @@ ghost use Rattle.geometry.specs.Config.{setting_of, is_valid, precompensation_in
 ghost use Rattle.model.specs.Commands.{initialize};
 ghost use Rattle.model.specs.Premises.{WellFormed};
 
+use crate::arm::arrive;
 use base::bytes::two_bytes;
 use base::logic::either;
 use endings::ending::{failed, good};
@@ -33,7 +34,7 @@ fn may_come_in(medium: Medium, config: [u8; 10], image: usize) -> bool
     }
 }
 
-// The label's own bytes come into force, not pending; others pending, if they may come in; else 22h.
+// The label's own bytes come into force, not pending; others pending, with the arm at cylinder 0, if they may come in; else 22h.
 pub fn initialize(entry: Drive, b: Block, given: &[u8], image: &[u8]) -> Ending
     requires { WellFormed b × (10 ≤ length given.now) }
     ensures { result ≡ initialize b given.now entry image.now }
@@ -46,12 +47,12 @@ pub fn initialize(entry: Drive, b: Block, given: &[u8], image: &[u8]) -> Ending
     if !either(held, fits) {
         return failed(entry, drive, drive, 0x22, b.address, 0, 0);
     }
-    let sense = entry.sense;
-    let next = Drive {
-        sense: sense,
-        config: config,
-        known: true,
-        pending: !held,
-    };
-    good(next, drive, 0, 0)
+    let mut next = entry;
+    next.config = config;
+    next.known = true;
+    next.pending = !held;
+    if held {
+        return good(next, drive, 0, 0);
+    }
+    good(arrive(next, 0), drive, 0, 0)
 }

@@ -15,6 +15,8 @@ fn blank_drive() -> Drive
         config: [0; 10],
         known: false,
         pending: false,
+        target: 0,
+        way: 0,
     }
 }
 
@@ -30,6 +32,8 @@ pub fn load(drive: u8, image: &[u8]) -> Drive
             config: config_in(image),
             known: true,
             pending: false,
+            target: 0,
+            way: 0,
         },
     }
 }

@@ -4,6 +4,7 @@ ghost use Rattle.geometry.specs.Medium.{medium_of};
 ghost use Rattle.model.specs.Record.{setting_in};
 ghost use Rattle.model.specs.Engine.{view_of};
 
+use crate::arm::is_travelling;
 use geometry::config::{Setting, setting_of};
 use geometry::medium::{Medium, medium_of};
 use model::record::Drive;
@@ -25,10 +26,12 @@ pub fn view_of(drive: u8, entry: Drive, image: usize) -> View
     ensures { result ≡ view_of (medium_of drive) entry image }
 {
     let medium = medium_of(drive);
+    let way = entry.way;
     View {
         medium: medium,
         present: 16 <= image,
         setting: setting_in(medium, entry, image),
         pending: entry.pending,
+        travelling: is_travelling(way),
     }
 }

@@ -70,11 +70,6 @@ copy_formed bytes k e copy below =
     six a b c d e f (suc (suc (suc (suc (suc zero))))) = f
     six a b c d e f (suc (suc (suc (suc (suc (suc i)))))) = omega arith
 
-longer : (copy : Bool) (n : ℕ) → n ≡ pick copy 10 6 → 1 < n
-unfolding pick
-longer true n e = omega (arith, e)
-longer false n e = omega (arith, e)
-
 -- ---- how many bytes it has, by the tests that the code has made
 module _ (block : List ℕ) {whole copy : Bool} (ew : whole ≡ is_whole block) (ec : copy ≡ is_copy block) (is : not whole ≡ false) where
   pub is_six : copy ≡ false → length block ≡ 6
@@ -83,15 +78,6 @@ module _ (block : List ℕ) {whole copy : Bool} (ew : whole ≡ is_whole block) 
   pub is_ten : copy ≡ true → length block ≡ 10
   unfolding is_whole block_length
   is_ten yes-copy = eqb-true _ _ (test_on whole (is_whole block) ew is) ∙ pick_true (is_copy block) 10 6 (sym ec ∙ yes-copy)
-
-pub whole_two : (block : List ℕ) → is_whole block ≡ true → 1 < length block
-unfolding is_whole block_length
-whole_two block e = longer (is_copy block) (length block) (eqb-true _ _ e)
-
--- byte 1 has the drive of either kind, a Copy's source
-pub named_copy : (block : List ℕ) (k : CopyBlock) → k ≡ copy_of block → k.from.drive ≡ (block_of block).drive
-unfolding copy_of block_of
-named_copy block k e = ap (λ (j : CopyBlock). j.from.drive) e
 
 -- ---- the record
 module _ (c : Controller) (area : List ℕ) (images : List (List ℕ)) where

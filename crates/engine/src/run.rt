@@ -1,6 +1,6 @@
 // A command from its block to its outcome: the record and the images are put together here, and nowhere else.
-ghost use Rattle.std.specs.Prelude.{◌≡◌, length, set, true};
-ghost use Rattle.model.specs.Block.{block_of, is_whole};
+ghost use Rattle.std.specs.Prelude.{◌≡◌, length, true};
+ghost use Rattle.model.specs.Block.{is_whole};
 ghost use Rattle.model.specs.Engine.{images_of, execute};
 ghost use Rattle.model.specs.Premises.{WellFormed};
 ghost use Rattle.engine.specs.Results.{lent_now, obeyed, result_now};
@@ -11,7 +11,7 @@ use dispatch::obey::obey;
 use drives::entry::{drive_at, with_drive};
 use endings::ending::bare_answer;
 use model::block::Block;
-use model::record::{Answer, Controller, Drive, Ending, Outcome};
+use model::record::{Controller, Drive, Ending, Outcome, Ran};
 
 // A command on the image of the drive that it names.
 fn on_images(
@@ -43,14 +43,7 @@ fn on_images(
     obey(entry, b, buffer, given, area, image3)
 }
 
-// What a call leaves beside the buffer: the drives' entries, and the answer.
-#[derive(Drop)]
-pub struct Ran {
-    pub drives: [Drive; 4],
-    pub answer: Answer,
-}
-
-// A whole block: what it leaves of the drive in its byte 1, which is a Copy's source, with the answer.
+// A whole block: what it leaves of the drives, with the answer.
 fn run_block(
     drives: [Drive; 4],
     block: &[u8],
@@ -61,15 +54,9 @@ fn run_block(
     image1: &mut [u8],
     image2: &mut [u8],
     image3: &mut [u8],
-) -> Ending
+) -> Ran
     requires { (is_whole block.now ≡ true) × (length buffer.old ≡ 512) }
-    ensures { result_now (record {
-      controller = record {
-        buffer = buffer.exit.now;
-        drives = set drives (block_of block.now).drive result.entry;
-      };
-      answer = result.answer;
-    })
+    ensures { result_now (record { controller = record { buffer = buffer.exit.now; drives = result.drives }; answer = result.answer })
         area.new (images_of image0.new image1.new image2.new image3.new)
         ≡ execute (record { buffer = buffer.entry.now; drives = drives }) block.now given.now area.old
         (images_of image0.old image1.old image2.old image3.old) }
@@ -79,10 +66,18 @@ fn run_block(
         return run_copy(drives, k, buffer, image0, image1, image2, image3);
     }
     let b = decode(block);
-    let before = drive_at(drives, b.drive);
-    on_images(
+    let drive = b.drive;
+    let before = drive_at(drives, drive);
+    let ending = on_images(
         before, b, buffer, given, area, image0, image1, image2, image3,
-    )
+    );
+    let entry = ending.entry;
+    let answer = ending.answer;
+    let after = with_drive(drives, drive, entry);
+    Ran {
+        drives: after,
+        answer: answer,
+    }
 }
 
 // A command: any block, given data, data area and images. The buffer is lent, so that no call copies it.
@@ -108,17 +103,9 @@ pub fn execute_on(
             answer: bare_answer(1),
         };
     }
-    let ending = run_block(
+    run_block(
         drives, block, buffer, given, area, image0, image1, image2, image3,
-    );
-    let drive = block[1] / 32 % 4;
-    let entry = ending.entry;
-    let answer = ending.answer;
-    let after = with_drive(drives, drive, entry);
-    Ran {
-        drives: after,
-        answer: answer,
-    }
+    )
 }
 
 // The same of a record by value.

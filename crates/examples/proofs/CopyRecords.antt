@@ -32,6 +32,9 @@ use Rattle.model.specs.Engine.{view_of, obey_copy, Result, images_of, image_of, 
 use Rattle.model.specs.declared.record.Answer.{Answer}
 use Rattle.model.specs.declared.record.Controller.{Controller}
 use Rattle.model.specs.Records.{is_good, named_by_copy, named, NoOtherRecord, CopiedReads, GoodCopies, ShortCopies}
+use Rattle.model.specs.Arm.{arms_still, arrival_of, arrived, brought, is_travelling, last_from}
+use Rattle.model.specs.Copies.{arms_of, is_target_fault}
+use Rattle.model.specs.Engine.{arms_brought}
 use Rattle.model.proofs.records.Calls.{no_other_record}
 use Rattle.model.proofs.records.Copies.{copied_reads, good_copies, short_copies}
 
@@ -81,6 +84,7 @@ unfolding p q slot images start copy made lba pick part splice rows first_from f
     block_wrong control_wrong with_params past_end not_spared size_in bytes_of hits_of in_order filling_of shares saying_of judge reach_of
     judge_copy addressed sense_of drive_at
     sensed setting_in failed good unless_named copy_ending copy_left copy_with view_of obey_copy image_of left_by_copy on_drives execute loaded_by loaded fresh
+    arms_brought brought arms_still arms_of is_target_fault arrival_of last_from arrived is_travelling
 facts = (refl, refl, refl, refl, refl, refl, refl)
 
 -- what the engine leaves of senses and buffer: drive 2's sense has no code, or 23h of drive 0 and address 10, drive 0's stays; the last
@@ -102,6 +106,7 @@ unfolding sense_of_lem p q slot images start copy made lba pick part splice rows
     judge_copy addressed sense_of
     drive_at sensed setting_in failed good unless_named copy_ending copy_left copy_with view_of obey_copy image_of left_by_copy on_drives execute loaded_by loaded
     fresh
+    arms_brought brought arms_still arms_of is_target_fault arrival_of last_from arrived is_travelling
 left_over = (refl, refl, refl, refl, refl, refl)
 
 -- the sectors that an answer counts, and whether its status is good

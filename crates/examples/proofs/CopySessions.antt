@@ -24,6 +24,7 @@ use Rattle.model.specs.Machine.{format_drive, check_track, format_track, format_
 use Rattle.model.specs.Machine.{freely, seeking, on_tracks, on_sectors, with_parameters, carried, setting_with, seen, ordered, restored, step}
 use Rattle.model.specs.Machine.{has_passed, sectors_filled, poured, copy_ends, copy_over, copy_by, ordered_copy}
 use Rattle.model.specs.Claim.{replies}
+use Rattle.model.specs.Machine.{armed, at_sector, at_track, copy_armed, copy_moves, lesser, moves, needed_for, resting, rests, sent_to, set_out, step_option, towards, with_arm}
 use Rattle.model.proofs.anchors.Session.{Line, told, all_told, says, four, six, config, sent, senses, lengths_of, Answers}
 use Rattle.model.proofs.readers.Sessions.{EngineAnswers, engine_answers}
 
@@ -367,6 +368,7 @@ unfolding piece pieces asks saves reads sets buffers copies well_copied ill_copi
     read_from write_from inARow leaving transfer_by transfer filling_on filling from_on reformatted format_drive check_track format_track format_bad_track read
     write moving assign_to assign_alternate is_stored initialize_by freely seeking on_tracks on_sectors with_parameters carried setting_with seen ordered restored
     has_passed sectors_filled poured copy_ends copy_over copy_by ordered_copy step replies is_whole block_length is_copy
+    resting with_arm step_option set_out towards sent_to at_sector at_track rests armed moves lesser needed_for copy_moves copy_armed
 worked = (refl, refl, refl, refl, refl, refl, refl, refl, refl, refl)
 
 -- By the claim the engine answers so too, on images of zeros as long as these disks.

@@ -32,6 +32,9 @@ use Rattle.model.specs.Commands.{do_free, carry_out}
 use Rattle.model.specs.Claim.{replies, Reset, Command as Commanded, replied, left_by, called, engine_at_end, begin}
 use Rattle.model.specs.Separation.{names, concerns, calls_of, uses_buffer, excluded, may_stand, all_may_stand, Heard, heard_of, heard, Own, own_of, SameFor, SeparationWhere, SeparationExcluding, Separation}
 use Rattle.model.specs.Turns.{fills_buffer, clean_after, in_its_turn, in_turns, SeparationInTurns, reset_between, SeparationByResets}
+use Rattle.model.specs.Arm.{arrived, is_travelling, last_done, last_from, last_of, left_at}
+use Rattle.model.specs.Commands.{arm_left}
+use Rattle.model.specs.Machine.{armed, at_sector, at_track, copy_armed, copy_moves, lesser, moves, needed_for, resting, rests, sent_to, set_out, step_option, towards, with_arm}
 use Rattle.model.proofs.anchors.Session.{Line, told, all_told, says, four, six, config, sent, lengths_of, Answers}
 use Rattle.model.proofs.readers.Sessions.{all_zeros, call_of}
 use Rattle.model.proofs.separation.Turns.{separated, separated_in_turns, separated_by_resets}
@@ -86,6 +89,7 @@ heard_by_hand :
 unfolding heard heard_of concerns names begin fresh reset_of loaded loaded_by label_setting called left_by replied execute on_drive obey view_of image_of left drive_at setting_in
     unless_named failed good sensed do_free carry_out part splice six pick block_of row_for present_with judge judged in_order hits_of is_unknown block_wrong reach_of
     bytes_of is_among check_number addressed sense_of blank_drive is_whole block_length is_copy medium_of is_floppy same_bytes
+    arm_left last_done last_of last_from left_at arrived is_travelling
 heard_by_hand = refl
 
 -- ---- For a floppy, drive 2, with Resets: its parameters come back from its label. The other drives' images differ in length.
@@ -171,4 +175,5 @@ unfolding ten buffers_1 formats saves_1 reads_0 saves_0 busy quiet resets floppy
     transfer_by transfer filling_on filling from_on reformatted format_drive check_track format_track format_bad_track read write assign_to assign_alternate is_stored
     initialize_by freely seeking on_tracks on_sectors with_parameters carried setting_with seen ordered restored has_passed sectors_filled poured copy_ends copy_over
     copy_by ordered_copy step replies is_whole block_length is_copy
+    resting with_arm step_option set_out towards sent_to at_sector at_track rests armed moves lesser needed_for copy_moves copy_armed
 sessions_answered = (refl, refl, refl, refl, refl, refl, refl, refl)

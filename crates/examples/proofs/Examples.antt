@@ -3,6 +3,7 @@ use Prim.Native.Nat.{ℕ}
 use mathlib.Core.Path.{◌≡◌, refl}
 use mathlib.Core.Bool.{true, false}
 use mathlib.Core.List.{List, [], ◌∷◌, ◌++◌}
+use lib.IntN.{pos}
 use lib.ListN.{get_or, replicate}
 use Rattle.base.specs.Pick.{pick}
 use Rattle.base.specs.Part.{part, splice, rows}
@@ -40,6 +41,8 @@ use Rattle.model.specs.Commands.{plain_byte, plain_fill, fill_of, made_at, drive
 use Rattle.model.specs.Commands.{assign_tests, assigned, missing_in, alternated, assign_alternate, do_free, do_track, do_sectors, as_effect, do_disk, carry_out}
 use Rattle.model.specs.Engine.{view_of, obey, Result, images_of, image_of, left, on_drive, execute}
 use Rattle.model.specs.Machine.{Kind, fresh_disk, becomes, filled, moving, assign_to, parted, parted_by, some_parted}
+use Rattle.model.specs.Arm.{arrived, is_travelling, last_done, last_from, last_of, left_at}
+use Rattle.model.specs.Commands.{arm_left}
 
 -- sector s of a track of n, interleave f, is in slot k
 InSlot : (n f s k : ℕ) → Type 0
@@ -59,7 +62,7 @@ length_for c = length_of (setting_of HardDisk c 100000000)
 
 -- a drive of one track, ready
 one : (size : ℕ) → View
-one size = record { medium = HardDisk; present = true; setting = setting_of HardDisk (config 0 1 1 size) 8856; pending = false }
+one size = record { medium = HardDisk; present = true; setting = setting_of HardDisk (config 0 1 1 size) 8856; pending = false; travelling = false }
 
 block : (a b c d e f : ℕ) → Block
 block a b c d e f = block_of (a ∷ b ∷ c ∷ d ∷ e ∷ f ∷ [])
@@ -73,7 +76,7 @@ address a = record { 0 = a }
 
 -- a controller with these configurations in force on drives 0 and 1
 ready : List ℕ → Drive
-ready bytes = record { sense = replicate 4 0; config = bytes; known = true; pending = false }
+ready bytes = record { sense = replicate 4 0; config = bytes; known = true; pending = false; target = 0; way = pos 0 }
 
 on : (config₀ config₁ : List ℕ) → Controller
 on config₀ config₁ = record { buffer = replicate 512 0; drives = ready config₀ ∷ ready config₁ ∷ blank_drive ∷ blank_drive ∷ [] }
@@ -156,6 +159,7 @@ unfolding InSlot config length_of length_for one block four address ready on the
     is_bad is_moved is_taken is_taken_by_other taken_by where_by where_of holds slot_used sector_in sector_from sector_found slot_data begun ended read_slot onward found reading transfer_ending transferred read
     view_of obey image_of left on_drive execute is_copy block_length is_whole
     fresh_disk becomes filled moving assign_to parted parted_by some_parted
+    arm_left last_done last_of last_from left_at arrived is_travelling
 examples = (
   (refl, refl),
   (refl, refl, refl),

@@ -26,6 +26,7 @@ use Rattle.model.specs.Machine.{freely, seeking, on_tracks, on_sectors, with_par
 use Rattle.model.specs.Machine.{has_passed, sectors_filled, poured, copy_ends, copy_over, copy_by, ordered_copy}
 use Rattle.model.specs.Claim.{replies}
 use Rattle.model.specs.Separation.{names, concerns, calls_of, uses_buffer, excluded, may_stand, all_may_stand, SeparationExcluding}
+use Rattle.model.specs.Machine.{armed, at_sector, at_track, copy_armed, copy_moves, lesser, moves, needed_for, resting, rests, sent_to, set_out, step_option, towards, with_arm}
 use Rattle.model.proofs.anchors.Session.{Line, told, all_told, says, four, six, config, sent, lengths_of, Answers}
 use Rattle.model.proofs.readers.Sessions.{call_of}
 use Rattle.examples.proofs.Hearing.{of_drive, calls_in, written, refuted}
@@ -112,6 +113,7 @@ unfolding ten buffers_1 formats saves_1 reads_0 read_buffer own_read format_driv
     filling from_on reformatted format_drive check_track format_track format_bad_track read write moving assign_to assign_alternate is_stored initialize_by freely seeking
     on_tracks on_sectors with_parameters carried setting_with seen ordered restored has_passed sectors_filled poured copy_ends copy_over copy_by ordered_copy step
     replies is_whole block_length is_copy
+    resting with_arm step_option set_out towards sent_to at_sector at_track rests armed moves lesser needed_for copy_moves copy_armed
 answered = (refl, refl, refl, refl, refl, refl, refl, refl, refl, refl, refl, refl)
 
 needed : (let-in : List ℕ) (lines₁ lines₂ : List Line) → Answers lens lines₁ → Answers lens lines₂ → calls_of 0 (calls_in lines₁) ≡ calls_of 0 (calls_in lines₂)

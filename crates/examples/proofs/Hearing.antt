@@ -24,7 +24,7 @@ of_drive d (call ∷ calls) [] = []
 of_drive d (call ∷ calls) (x ∷ xs) = pick (concerns d call) (x ∷ of_drive d calls xs) (of_drive d calls xs)
 
 told_of : Heard → List ℕ
-told_of h = told (reply_of h.answer h.area)
+told_of h = told (reply_of [] h.answer h.area)
 
 pick_map : (on : Bool) (f : Heard → List ℕ) (h : Heard) (rest : List Heard) (later : List (List ℕ)) → map f rest ≡ later
     → map f (pick on (h ∷ rest) rest) ≡ pick on (f h ∷ later) later
@@ -33,7 +33,7 @@ pick_map true f h rest later e = ap (λ (xs : List (List ℕ)). f h ∷ xs) e
 pick_map false f h rest later e = e
 
 heard_told : (d : ℕ) (s : System) (calls : List Call) → map told_of (heard d s calls) ≡ of_drive d calls (map told (engine_replies s calls))
-unfolding heard of_drive engine_replies told_of heard_of called replied
+unfolding heard of_drive engine_replies told_of told heard_of called replied reply_of
 heard_told d s [] = refl
 heard_told d s (call ∷ calls) = pick_map (concerns d call) told_of (heard_of (left_by s call)) _ _ (heard_told d (called s call).1 calls)
 

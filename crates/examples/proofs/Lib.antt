@@ -6,3 +6,4 @@ pub mod Hearing
 pub mod Exclusions
 pub mod Departments
 pub mod Moves
+pub mod Seeks

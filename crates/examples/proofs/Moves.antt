@@ -34,8 +34,9 @@ use Rattle.model.specs.declared.table.DiskCommand.TheVariants.{TrackWork}
 use Rattle.model.specs.declared.table.TrackCommand.TheVariants.{AssignAlternate}
 use Rattle.model.specs.Engine.{Result, image_of, execute}
 use Rattle.model.specs.Records.{is_good, Is}
-use Rattle.model.specs.Claim.{System, Call, reply_of, replied, left_by, called, engine_replies, engine_at_end, begin}
+use Rattle.model.specs.Claim.{System, Call, reply_of, ways_told, replied, left_by, called, engine_replies, engine_at_end, begin}
 use Rattle.model.specs.Power.{Keeping, CutShort, second_track, left_images, restarted, ReadOutside, FromFresh, ReadsAsBefore}
+use Rattle.model.specs.Machine.{armed, at_sector, at_track, resting, rests, sent_to, set_out, step_option, towards, with_arm}
 use Rattle.model.proofs.power.Labelled.{from_fresh}
 use Rattle.model.proofs.power.ReadAgain.{reads_as_before}
 use Rattle.examples.proofs.Hearing.{told_is, calls_in}
@@ -63,6 +64,7 @@ unfolding told all_told says four six config sent senses saved send_keep send_re
     denied paired parted parted_by some_parted address_given unassignable finished with_first passing read_from write_from inARow leaving transfer_by
     transfer filling_on filling from_on reformatted format_drive check_track format_track format_bad_track read write moving assign_to assign_alternate is_stored
     initialize_by freely seeking on_tracks on_sectors with_parameters carried setting_with seen ordered restored step replies is_whole block_length is_copy
+    resting with_arm step_option set_out towards sent_to at_sector at_track rests armed
 answers = (refl, refl)
 
 -- ---- The last reply of a list
@@ -100,14 +102,14 @@ sent_there : (block given : List ℕ) → Result
 sent_there block given = execute at_keep.controller block given room at_keep.images
 
 reply : Result → List ℕ
-reply r = told (reply_of r.outcome.answer r.area)
+reply r = told (reply_of [] r.outcome.answer r.area)
 
 keep_told : reply (sent_there keep_block alternate) ≡ says 0 0 0 0 []
-unfolding reply sent_there keep_block alternate room called replied left_by call_of send_keep sent
+unfolding reply sent_there keep_block alternate room called ways_told replied left_by call_of send_keep sent
 keep_told = replied_so send_keep answers.0
 
 read_told : reply (sent_there (six 0x08 0 0 37 1 0) []) ≡ says 0 0 1 256 (replicate 256 5)
-unfolding reply sent_there room called replied left_by call_of send_read sent
+unfolding reply sent_there room called ways_told replied left_by call_of send_read sent
 read_told = replied_so send_read answers.1
 
 good_move : Is (OnDisk (TrackWork AssignAlternate)) 0 keep_block (sent_there keep_block alternate).outcome.answer

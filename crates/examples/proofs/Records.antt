@@ -40,6 +40,8 @@ use Rattle.model.specs.Engine.{view_of, obey, Result, images_of, image_of, left,
 use Rattle.model.specs.Records.{is_good, one_track, on_tracks, named_by, named, NoOtherRecord, WrittenReads}
 use Rattle.model.specs.Records.{GoodWrites, NoneWithoutParameters, Is, LabelStays, ParametersStay, PastStays}
 use Rattle.model.specs.declared.record.Answer.{Answer}
+use Rattle.model.specs.Arm.{arrived, is_travelling, last_done, last_from, last_of, left_at}
+use Rattle.model.specs.Commands.{arm_left}
 use Rattle.model.proofs.records.Calls.{no_other_record, written_reads, good_writes, none_without_parameters, past_stays}
 use Rattle.model.proofs.records.Places.{label_stays, parameters_stay}
 
@@ -98,6 +100,7 @@ unfolding p start then block config sectors made wrote lba pick part splice rows
     unless_named plain_byte plain_fill fill_of made_at drive_formatted pending_ended format_drive alone_tests format_track transfer_ending transferred write
     initialized initialized_by initialize do_free do_track do_sectors as_effect do_disk carry_out view_of obey image_of left on_drive execute loaded_by loaded
     fresh reset_of is_good is_whole block_length is_copy
+    arm_left last_done last_of last_from left_at arrived is_travelling
 facts = (refl, refl, refl, refl, refl, refl, refl, refl, refl, refl, refl)
 
 and_off : (x : Bool) → (x && false) ≡ false

@@ -1,12 +1,15 @@
-// The firmware's form of the calls: it lends the controller's record and has it changed there. Thin calls over `execute_on`, which
-// takes the drives by value and is lent the buffer, and over `reset` and `fresh`, which make a record, for C and Rust to link.
+// The firmware's form of the calls: it lends the controller's record and has it changed or read there. Thin calls over `execute_on`, which
+// takes the drives by value and is lent the buffer, over `tick_drives` and `ways_of`, which take the drives by value, and over `reset` and
+// `fresh`, which make a record, for C and Rust to link.
 ghost use Rattle.std.specs.Prelude.{◌≡◌};
+ghost use Rattle.model.specs.Arm.{tick_of, report_of};
 ghost use Rattle.model.specs.Engine.{images_of, execute, fresh, reset_of};
 ghost use Rattle.engine.specs.Results.{result_now};
 
 use drives::reset::{fresh, reset};
+use drives::tick::{tick_drives, ways_of};
 use engine::run::execute_on;
-use model::record::{Answer, Controller};
+use model::record::{Answer, Controller, Ways};
 
 // A command: any record, block, given data, data area and images: two hard disks, then two floppies.
 #[unsafe(no_mangle)]
@@ -69,4 +72,20 @@ pub extern "C" fn lanthewg_fresh(
     ensures { c.new ≡ fresh (images_of image0.now image1.now image2.now image3.now) }
 {
     *c = fresh(image0, image1, image2, image3);
+}
+
+// A tick: every travelling arm moves one cylinder.
+#[unsafe(no_mangle)]
+pub extern "C" fn lanthewg_tick(c: &mut Controller)
+    ensures { c.new ≡ tick_of c.old }
+{
+    c.drives = tick_drives(c.drives);
+}
+
+// A report: of each drive the cylinders still to go.
+#[unsafe(no_mangle)]
+pub extern "C" fn lanthewg_report(c: &Controller) -> Ways
+    ensures { result.ways ≡ report_of c.now }
+{
+    ways_of(c.drives)
 }

@@ -29,7 +29,7 @@ use Rattle.model.specs.Block.{block_of, count_of}
 use Rattle.model.specs.Table.{is_among, check_number, TableRow, row_for}
 use Rattle.model.specs.Checks.{size_in, bytes_of, judge}
 use Rattle.model.specs.Record.{Effect, effect, unless, unless_named, drive_at}
-use Rattle.model.specs.Commands.{read, transferred, do_sectors, do_disk, carry_out}
+use Rattle.model.specs.Commands.{read, transferred, do_sectors, do_disk, arm_left, carry_out}
 use Rattle.model.specs.Engine.{Result, view_of, obey, image_of, left, on_drive, execute}
 use Rattle.model.proofs.engine.Known.{setting_known}
 use Rattle.model.proofs.engine.Checked.{opcode_for, row_of, Cleared, cleared, area_enough, count_cleared}
@@ -77,7 +77,7 @@ module _ (b : Block) (given : List ℕ) (area : ℕ) (entry : Drive) (buffer ima
           omega (arith, h.long, mul-le-mul_right p.size h.most)
 
       read_fits : (s : Setting) → view.setting ≡ s → length (carry_out b s given entry buffer image (OnDisk (SectorWork Read))).handed ≤ area
-      unfolding carry_out do_disk do_sectors read transferred
+      unfolding carry_out arm_left do_disk do_sectors read transferred
       read_fits Invalid e = omega arith
       read_fits (Valid p) e = sectors_fit p e
 

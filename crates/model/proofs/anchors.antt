@@ -14,3 +14,6 @@ pub mod Session
 pub mod Floppies
 pub mod Leaves
 pub mod Naming
+pub mod Arms
+pub mod ArmSessions
+pub mod Waiting

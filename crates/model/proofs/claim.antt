@@ -12,10 +12,13 @@ pub mod Keeping
 pub mod Agrees
 pub mod Ends
 pub mod Current
+pub mod Travels
+pub mod Brings
 pub mod Simple
 pub mod OneTrack
 pub mod WholeDrive
 pub mod Transfers
+pub mod Seeks
 pub mod Restarted
 pub mod Obeyed
 pub mod Copied

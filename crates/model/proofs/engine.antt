@@ -2,6 +2,8 @@
 pub mod Rows
 pub mod Judged
 pub mod Checked
+pub mod Arms
+pub mod Ways
 pub mod Known
 pub mod Assignable
 pub mod Outside

@@ -21,7 +21,7 @@ use Rattle.model.specs.declared.verdict.Verdict.{Verdict}
 use Rattle.model.specs.declared.verdict.Verdict.TheVariants.{Refused, Faulty, Passed}
 use Rattle.model.specs.declared.verdict.Judgement.{Judgement}
 use Rattle.model.specs.Block.{count_of}
-use Rattle.model.specs.Table.{HardOnly, Control, FillBit, KeepBit, Present, Parameters, Interleave, Address, Counted, Settled, SparedWhole, TableRow, applies, row_for}
+use Rattle.model.specs.Table.{HardOnly, Control, FillBit, KeepBit, Present, Parameters, Arrived, Interleave, Address, Counted, Settled, SparedWhole, TableRow, applies, row_for}
 
 -- A test, and the verdict where it hits.
 pub record Test : Type 0 where
@@ -102,6 +102,7 @@ hits_of e b reach v given area = record {
   wrong = block_wrong e b v;
   absent = applies Present e && not v.present;
   unset = applies Parameters e && not (is_valid v.setting);
+  travelling = applies Arrived e && v.travelling;
   interleave = applies Interleave e && with_params v.setting (interleave_wrong b.extra);
   past = applies Address e && with_params v.setting (past_end b.address reach);
   pending = v.pending && (applies Settled e && with_params v.setting (not_spared (applies SparedWhole e) b.address));
@@ -109,13 +110,14 @@ hits_of e b reach v given area = record {
   small = ltb area (bytes_of e.gives b v.setting);
 }
 
--- ---- The order: 20h; 22h; 04h; 0Ah; interleave, 22h; 21h; 16h; numbers 2, 3.
+-- ---- The order: 20h; 22h; 04h; 0Ah; 08h (request E9); interleave, 22h; 21h; 16h; numbers 2, 3.
 unfoldable pub in_order : Lba → Hits → List Test
 in_order a hits =
     on hits.unknown 0x20 a
     ∷ on hits.wrong 0x22 a
     ∷ on hits.absent 0x04 a
     ∷ on hits.unset 0x0A a
+    ∷ on hits.travelling 0x08 a
     ∷ on hits.interleave 0x22 a
     ∷ on hits.past 0x21 a
     ∷ on hits.pending 0x16 a

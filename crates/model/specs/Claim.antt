@@ -1,6 +1,6 @@
--- Demand 3 of document 01, one claim about every list of commands and resets: the engine answers as the plain machine does,
+-- Demand 3 of document 01, one claim about every list of commands, resets, ticks and reports: the engine answers as the plain machine does,
 -- and at the end it holds what the machine holds.
-use Rattle.std.specs.Prelude.{ℕ, ◌<◌, ◌≡◌, Bool, true, false, List, [], ◌∷◌, map, length, take}
+use Rattle.std.specs.Prelude.{ℕ, ◌<◌, ◌≡◌, Bool, true, false, List, [], ◌∷◌, map, length, take, ℤ}
 use Rattle.std.proofs.Math.Option.{some}
 use Rattle.geometry.specs.declared.params.Lba.{Lba}
 use Rattle.geometry.specs.declared.params.Track.{Track}
@@ -15,7 +15,9 @@ use Rattle.track.specs.declared.find.Sector.TheVariants.{Slot}
 use Rattle.track.specs.Find.{sector_found}
 use Rattle.model.specs.declared.record.Controller.{Controller}
 use Rattle.model.specs.declared.record.Answer.{Answer}
-use Rattle.model.specs.Feed.{Feed, reset, command, Reply}
+use Rattle.model.specs.Record.{bare_answer}
+use Rattle.model.specs.Arm.{tick_of, report_of}
+use Rattle.model.specs.Feed.{Feed, reset, tick, report, command, Reply}
 use Rattle.model.specs.Engine.{Result, image_of, execute, fresh, reset_of}
 use Rattle.model.specs.Machine.{Kind, stateless, sound, bad, moved, taken, Disk, Machine, fresh_machine, step}
 
@@ -33,41 +35,54 @@ pub record System : Type 0 where
   pub controller : Controller
   pub images : List (List ℕ)
 
--- A Reset, or a command of any bytes and lengths; of the data area its old bytes.
+-- A Reset, a tick, a report, or a command of any bytes and lengths; of the data area its old bytes.
 pub data Call : Type 0 where
-  Reset : Call
+  Reset Tick Report : Call
   Command : (block given area : List ℕ) → Call
 
 -- Of the data area the machine is fed the length.
 unfoldable pub fed : Call → Feed
 fed Reset = reset
+fed Tick = tick
+fed Report = report
 fed (Command block given area) = command block given (length area)
 
--- What is compared: the answer, and the bytes handed over, which are the front of the data area.
-unfoldable pub reply_of : Answer → (area : List ℕ) → Reply
-reply_of answer area = record {
+-- What is compared: the ways told, the answer, and the bytes handed over, which are the front of the data area.
+unfoldable pub reply_of : (ways : List ℤ) → Answer → (area : List ℕ) → Reply
+reply_of ways answer area = record {
   number = answer.number;
   status = answer.status;
   message = answer.message;
   sectors = answer.sectors;
   bytes = answer.bytes;
   handed = take answer.bytes area;
+  ways = ways;
 }
 
 -- What a call replies, and what it leaves for the next.
-unfoldable pub replied : Result → Reply × System
-replied r = (
-  reply_of r.outcome.answer r.area,
+unfoldable pub replied : (ways : List ℤ) → Result → Reply × System
+replied ways r = (
+  reply_of ways r.outcome.answer r.area,
   record { controller = r.outcome.controller; images = r.images },
 )
 
--- One call: what `reset` and `execute` promise to leave. Reset is lent no data area.
+-- One call: what `reset`, `tick` and `execute` promise to leave. Only a command is lent a data area, and a report changes nothing.
 unfoldable pub left_by : System → Call → Result
 left_by s Reset = record { outcome = reset_of s.images; area = []; images = s.images }
+left_by s Tick =
+    record { outcome = record { controller = tick_of s.controller; answer = bare_answer 0 }; area = []; images = s.images }
+left_by s Report = record { outcome = record { controller = s.controller; answer = bare_answer 0 }; area = []; images = s.images }
 left_by s (Command block given area) = execute s.controller block given area s.images
 
+-- What `report` promises to tell; no other call tells ways.
+unfoldable pub ways_told : System → Call → List ℤ
+ways_told s Reset = []
+ways_told s Tick = []
+ways_told s Report = report_of s.controller
+ways_told s (Command block given area) = []
+
 unfoldable pub called : System → Call → Reply × System
-called s call = replied (left_by s call)
+called s call = replied (ways_told s call) (left_by s call)
 
 -- A list of calls, each of which gets the controller and the images that the call before left: its replies, and what is left
 -- at the end.

@@ -1,5 +1,5 @@
 -- Document 01, 'Commands': what each leaves of its drive's entry, the buffer and its drive's image, once the order of checks has let it pass.
-use Rattle.std.specs.Prelude.{ℕ, ◌+◌, ◌-◌, Bool, true, false, not, ◌&&◌, ◌||◌, List, [], ◌∷◌, ◌++◌, length, replicate, ltb, eqb}
+use Rattle.std.specs.Prelude.{ℕ, ◌+◌, ◌-◌, Bool, true, false, not, ◌&&◌, ◌||◌, List, [], ◌∷◌, ◌++◌, length, replicate, pos, ltb, eqb}
 use Rattle.base.specs.Pick.{pick}
 use Rattle.base.specs.Part.{part, splice}
 use Rattle.base.specs.Byte.{byte}
@@ -10,7 +10,7 @@ use Rattle.geometry.specs.declared.medium.Medium.{Medium}
 use Rattle.geometry.specs.declared.medium.Medium.TheVariants.{HardDisk, Floppy}
 use Rattle.geometry.specs.declared.config.Setting.{Setting}
 use Rattle.geometry.specs.declared.config.Setting.TheVariants.{Valid, Invalid}
-use Rattle.geometry.specs.Params.{track_count, track_of, last_address, further}
+use Rattle.geometry.specs.Params.{track_count, track_of, cylinder_of, last_address, further}
 use Rattle.geometry.specs.Medium.{medium_of, is_floppy}
 use Rattle.geometry.specs.Config.{setting_of, is_valid, label_rest, label_holds, precompensation_in}
 use Rattle.interleave.specs.Layout.{layout_of}
@@ -41,6 +41,7 @@ use Rattle.model.specs.declared.record.Ending.{Ending}
 use Rattle.model.specs.Block.{count_of, from_buffer, keeps, alternate_of}
 use Rattle.model.specs.Checks.{Test, on, judged}
 use Rattle.model.specs.Record.{good_answer, good, failed, unless, Effect, effect, Made, made}
+use Rattle.model.specs.Arm.{sought, last_done, left_at}
 
 -- ---- What formatting fills the data with: on a floppy E5h (request E3); on a hard disk 6Ch, or with control bit 5 the buffer's
 -- first D bytes.
@@ -67,7 +68,14 @@ drive_formatted b p config fill image =
     (sound_from p (layout_of p.sectors b.extra) fill (track_count p - (track_of p b.address).0) (track_of p b.address) image)
 
 unfoldable pub pending_ended : Drive → Drive
-pending_ended entry = record { sense = entry.sense; config = entry.config; known = entry.known; pending = false }
+pending_ended entry = record {
+  sense = entry.sense;
+  config = entry.config;
+  known = entry.known;
+  pending = false;
+  target = entry.target;
+  way = entry.way;
+}
 
 unfoldable pub format_drive : Block → Params → (buffer : List ℕ) → Drive → (image : List ℕ) → Made
 format_drive b p buffer entry image =
@@ -149,9 +157,16 @@ assign_alternate b p buffer given entry image =
 
 -- ---- 11h Initialize: takes the 10 configuration bytes. A valid label's own come into force, not pending (request E1), whatever
 -- their precompensation; others come into force, pending, if they are valid with precompensation in its bound (request E8), else
--- 22h. The image is untouched.
+-- 22h. The image is untouched. An Initialize that leaves the drive pending puts the arm at cylinder 0 (request E9).
 unfoldable pub initialized : (config : List ℕ) → (pending : Bool) → Drive → Drive
-initialized config pending entry = record { sense = entry.sense; config = config; known = true; pending = pending }
+initialized config pending entry = record {
+  sense = entry.sense;
+  config = config;
+  known = true;
+  pending = pending;
+  target = pick pending 0 entry.target;
+  way = pick pending (pos 0) entry.way;
+}
 
 unfoldable pub initialized_by : (held fits : Bool) → Block → (config : List ℕ) → Drive → Ending
 initialized_by held fits b config entry =
@@ -174,11 +189,11 @@ do_free b given entry buffer image WriteBuffer = effect (good b.drive 0 0 entry)
 do_free b given entry buffer image ReadBuffer = effect (good b.drive 0 (length buffer) entry) buffer buffer image
 do_free b given entry buffer image Initialize = effect (initialize b given entry image) buffer [] image
 
--- 00 Test Ready, 01 Recalibrate, 0Bh Seek: checks only.
-unfoldable pub do_arm : Block → Drive → ArmCommand → Ending
-do_arm b entry TestReady = good b.drive 0 0 entry
-do_arm b entry Recalibrate = good b.drive 0 0 entry
-do_arm b entry Seek = good b.drive 0 0 entry
+-- 00 Test Ready: checks only. 01 Recalibrate moves the arm to cylinder 0, 0Bh Seek to the address's (request E9).
+unfoldable pub do_arm : Block → Params → Drive → ArmCommand → Ending
+do_arm b p entry TestReady = good b.drive 0 0 entry
+do_arm b p entry Recalibrate = good b.drive 0 0 (sought (medium_of b.drive) 0 entry)
+do_arm b p entry Seek = good b.drive 0 0 (sought (medium_of b.drive) (cylinder_of p (track_of p b.address)) entry)
 
 unfoldable pub do_track : Block → Params → (buffer given : List ℕ) → Drive → (image : List ℕ) → TrackCommand → Made
 do_track b p buffer given entry image FormatDrive = format_drive b p buffer entry image
@@ -195,16 +210,23 @@ unfoldable pub as_effect : (buffer : List ℕ) → Made → Effect
 as_effect buffer x = effect x.ending buffer [] x.image
 
 unfoldable pub do_disk : Block → Params → (given : List ℕ) → Drive → (buffer image : List ℕ) → DiskCommand → Effect
-do_disk b p given entry buffer image (ArmWork command) = effect (do_arm b entry command) buffer [] image
+do_disk b p given entry buffer image (ArmWork command) = effect (do_arm b p entry command) buffer [] image
 do_disk b p given entry buffer image (TrackWork command) = as_effect buffer (do_track b p buffer given entry image command)
 do_disk b p given entry buffer image (SectorWork command) = do_sectors b p given entry buffer image command
+
+-- The arm is left at the cylinder of the last address done.
+unfoldable pub arm_left : Block → Params → DiskCommand → Effect → Effect
+arm_left b p command e =
+    let answer = e.ending.answer in
+    effect (record { entry = left_at p (last_done command b p answer) e.ending.entry; answer = answer }) e.buffer e.handed e.image
 
 -- Without parameters a command that needs them is 0Ah, which has been tested for before.
 unfoldable pub carry_out : Block → Setting → (given : List ℕ) → Drive → (buffer image : List ℕ) → Command → Effect
 carry_out b setting given entry buffer image (Free command) = do_free b given entry buffer image command
 carry_out b Invalid given entry buffer image (OnDisk command) =
     effect (failed b.drive b.drive 0x0A b.address 0 0 entry) buffer [] image
-carry_out b (Valid p) given entry buffer image (OnDisk command) = do_disk b p given entry buffer image command
+carry_out b (Valid p) given entry buffer image (OnDisk command) =
+    arm_left b p command (do_disk b p given entry buffer image command)
 carry_out b setting given entry buffer image Unknown =
     effect (failed b.drive b.drive 0x20 b.address 0 0 entry) buffer [] image
 -- Copy's block has ten bytes, and it is two drives' command: it does not come here.

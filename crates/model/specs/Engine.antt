@@ -1,5 +1,5 @@
 -- The engine: what `execute` and `reset` promise, for any record, block, given data, data area and images.
-use Rattle.std.specs.Prelude.{ℕ, true, false, List, [], ◌∷◌, length, set, replicate}
+use Rattle.std.specs.Prelude.{ℕ, true, false, List, [], ◌∷◌, length, set, replicate, pos}
 use Rattle.base.specs.Pick.{pick}
 use Rattle.geometry.specs.declared.medium.Medium.{Medium}
 use Rattle.geometry.specs.declared.config.Setting.{Setting}
@@ -11,12 +11,14 @@ use Rattle.model.specs.declared.block.CopyBlock.{CopyBlock}
 use Rattle.model.specs.declared.record.Drive.{Drive}
 use Rattle.model.specs.declared.record.Controller.{Controller}
 use Rattle.model.specs.declared.record.Ending.{Ending}
+use Rattle.model.specs.declared.record.CopyArms.{CopyArms}
 use Rattle.model.specs.declared.record.Outcome.{Outcome}
 use Rattle.model.specs.Block.{block_of, is_copy, is_whole, copy_of}
 use Rattle.model.specs.Table.{row_for}
 use Rattle.model.specs.declared.verdict.View.{View}
 use Rattle.model.specs.Checks.{present_with, judge, judge_copy}
 use Rattle.model.specs.Record.{blank_drive, drive_at, setting_in, bare_answer, Effect, effect, area_after, unless, unless_named}
+use Rattle.model.specs.Arm.{is_travelling, arms_still, brought}
 use Rattle.model.specs.Commands.{carry_out}
 use Rattle.model.specs.Copies.{CopyEffect, copy_effect, copy_with}
 -- the images lent, as a list: two hard disks, then two floppies
@@ -25,8 +27,13 @@ unfoldable pub use Rattle.copying.specs.Images.{image_of}
 
 -- ---- A command of six bytes on the image of the drive that it names
 unfoldable pub view_of : Medium → Drive → (image : ℕ) → View
-view_of medium entry image =
-    record { medium = medium; present = present_with image; setting = setting_in medium entry image; pending = entry.pending }
+view_of medium entry image = record {
+  medium = medium;
+  present = present_with image;
+  setting = setting_in medium entry image;
+  pending = entry.pending;
+  travelling = is_travelling entry.way;
+}
 
 -- The order of checks with numbers 2 and 3, then the command: its drive's entry, the buffer and its drive's image are all it sees.
 unfoldable pub obey : Block → (given : List ℕ) → (area : ℕ) → Drive → (buffer image : List ℕ) → Effect
@@ -35,13 +42,13 @@ obey b given area entry buffer image =
     unless (judge b view (length given) area) b.drive entry (λ e. effect e buffer [] image)
     (carry_out b view.setting given entry buffer image (row_for b.opcode).command)
 
--- ---- Copy, on the images of the two drives that it names; of their entries it leaves the source's
+-- ---- Copy, on the images of the two drives that it names; of their entries it leaves the source's, and both arms
 unfoldable pub obey_copy : CopyBlock → (source target : Drive) → (buffer : List ℕ) → (images : List (List ℕ)) → CopyEffect
 obey_copy k source target buffer images =
     let v = view_of (medium_of k.from.drive) source (length (image_of k.from.drive images)) in
     let w = view_of (medium_of k.to.drive) target (length (image_of k.to.drive images)) in
     let said = judge_copy k v w in
-    unless_named said.verdict k.from.drive said.named source (λ e. copy_effect e buffer images)
+    unless_named said.verdict k.from.drive said.named source (λ e. copy_effect e arms_still buffer images)
     (copy_with k v.setting w.setting source buffer images)
 
 -- ---- All that a call leaves
@@ -70,7 +77,7 @@ unfoldable pub on_drive : Block → (given : List ℕ) → Controller → (area 
 on_drive b given c area images =
     left b.drive (obey b given (length area) (drive_at c b.drive) c.buffer (image_of b.drive images)) c area images
 
--- Copy: the source drive's entry and the destination drive's image change, the data area does not.
+-- Copy: the source drive's entry and the destination drive's image change, the data area does not. Then the arms.
 unfoldable pub left_by_copy : (drive : ℕ) → CopyEffect → Controller → (area : List ℕ) → Result
 left_by_copy drive e c area = record {
   outcome = outcome_of drive e.ending e.buffer c;
@@ -78,9 +85,22 @@ left_by_copy drive e c area = record {
   images = e.images;
 }
 
+unfoldable pub arms_brought : CopyArms → Result → Result
+arms_brought arms r =
+    let c = r.outcome.controller in
+    record {
+      outcome = record {
+        controller = record { buffer = c.buffer; drives = brought arms.second (brought arms.first c.drives) };
+        answer = r.outcome.answer;
+      };
+      area = r.area;
+      images = r.images;
+    }
+
 unfoldable pub on_drives : CopyBlock → Controller → (area : List ℕ) → (images : List (List ℕ)) → Result
 on_drives k c area images =
-    left_by_copy k.from.drive (obey_copy k (drive_at c k.from.drive) (drive_at c k.to.drive) c.buffer images) c area
+    let e = obey_copy k (drive_at c k.from.drive) (drive_at c k.to.drive) c.buffer images in
+    arms_brought e.arms (left_by_copy k.from.drive e c area)
 
 -- A block that is not whole: number 1, all unchanged.
 unfoldable pub execute : Controller → (block given area : List ℕ) → (images : List (List ℕ)) → Result
@@ -89,11 +109,11 @@ execute c block given area images =
     (pick (is_copy block) (on_drives (copy_of block) c area images) (on_drive (block_of block) given c area images))
     (record { outcome = record { controller = c; answer = bare_answer 1 }; area = area; images = images })
 
--- ---- Reset: the buffer and all sixteen sense bytes are zero. A valid label comes into force, not pending; otherwise the
--- drive has no parameters.
+-- ---- Reset: the buffer and all sixteen sense bytes are zero, every arm rests at cylinder 0. A valid label comes into force, not
+-- pending; otherwise the drive has no parameters.
 unfoldable pub loaded_by : Setting → (config : List ℕ) → Drive
 loaded_by Invalid config = blank_drive
-loaded_by (Valid p) config = record { sense = replicate 4 0; config = config; known = true; pending = false }
+loaded_by (Valid p) config = record { sense = replicate 4 0; config = config; known = true; pending = false; target = 0; way = pos 0 }
 
 unfoldable pub loaded : (drive : ℕ) → (image : List ℕ) → Drive
 loaded drive image = loaded_by (label_setting (medium_of drive) image) (label_config image)

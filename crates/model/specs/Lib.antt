@@ -3,6 +3,7 @@ pub mod Table
 pub mod Checks
 pub mod Sense
 pub mod Record
+pub mod Arm
 pub mod Commands
 pub mod Copies
 pub mod Engine
@@ -13,4 +14,5 @@ pub mod Machine
 pub mod Claim
 pub mod Separation
 pub mod Turns
+pub mod Ready
 pub mod Power

@@ -3,7 +3,7 @@
 -- With the engine it shares what the paper shares: which drives are floppies, validity and geometry of a configuration,
 -- presence of a drive, a block's length and fields, the table and the order of checks with the lengths of data and the sectors
 -- that a Copy fills, the layout of sense bytes, sameness of bytes. All else is written out here.
-use Rattle.std.specs.Prelude.{ℕ, zero, suc, ◌+◌, ◌-◌, ◌*◌, ◌/◌, ◌%◌, Bool, true, false, not, ◌&&◌, ◌||◌, List, [], ◌∷◌, ◌++◌, length, take, drop, replicate, ltb, leb, eqb}
+use Rattle.std.specs.Prelude.{ℕ, zero, suc, ◌+◌, ◌-◌, ◌*◌, ◌/◌, ◌%◌, Bool, true, false, not, ◌&&◌, ◌||◌, List, [], ◌∷◌, ◌++◌, length, take, drop, replicate, ℤ, pos, ◌-ℤ◌, ltb, leb, eqb}
 use Rattle.std.proofs.Math.Option.{Option, none, some}
 use Rattle.base.specs.Pick.{pick}
 use Rattle.base.specs.Same.{same_bytes}
@@ -15,7 +15,7 @@ use Rattle.geometry.specs.declared.medium.Medium.{Medium}
 use Rattle.geometry.specs.declared.medium.Medium.TheVariants.{HardDisk, Floppy}
 use Rattle.geometry.specs.declared.config.Setting.{Setting}
 use Rattle.geometry.specs.declared.config.Setting.TheVariants.{Valid, Invalid}
-use Rattle.geometry.specs.Params.{track_count, track_of, next, further, track}
+use Rattle.geometry.specs.Params.{track_count, track_of, cylinder_of, next, further, track}
 use Rattle.geometry.specs.Medium.{medium_of}
 use Rattle.geometry.specs.Config.{setting_of, is_valid, precompensation_in}
 use Rattle.model.specs.declared.block.Block.{Block}
@@ -39,7 +39,7 @@ use Rattle.model.specs.Table.{row_for}
 use Rattle.model.specs.declared.verdict.View.{View}
 use Rattle.model.specs.Checks.{Test, on, judged, present_with, judge, judge_copy}
 use Rattle.model.specs.Sense.{sense_of}
-use Rattle.model.specs.Feed.{Feed, reset, command, Reply, bare}
+use Rattle.model.specs.Feed.{Feed, reset, tick, report, command, Reply, bare, telling}
 
 -- ---- State
 -- Per track sound, bad, moved to a track or taken by one; a track that was never formatted has no state.
@@ -58,11 +58,20 @@ pub record Disk : Type 0 where
   pub inter : Track → ℕ
   pub held : Lba → List ℕ
 
--- Buffer, four senses, four drives: by their numbers.
+-- A drive's arm (request E9): the cylinder where it is, and the one where it goes.
+pub record Arm : Type 0 where
+  pub at : ℕ
+  pub goal : ℕ
+
+unfoldable pub resting : (cylinder : ℕ) → Arm
+resting cylinder = record { at = cylinder; goal = cylinder }
+
+-- Buffer, four senses, four drives, four arms: by their numbers.
 pub record Machine : Type 0 where
   pub buffer : List ℕ
   pub senses : ℕ → List ℕ
   pub disks : ℕ → Disk
+  pub arms : ℕ → Arm
 
 -- Fresh, no configuration is stored and the map is empty.
 unfoldable pub fresh_disk : (len : ℕ) → Disk
@@ -71,20 +80,24 @@ fresh_disk len =
 
 -- It is fed the image lengths.
 unfoldable pub fresh_machine : (len : ℕ → ℕ) → Machine
-fresh_machine len = record { buffer = replicate 512 0; senses = λ d. replicate 4 0; disks = λ d. fresh_disk (len d) }
+fresh_machine len =
+    record { buffer = replicate 512 0; senses = λ d. replicate 4 0; disks = λ d. fresh_disk (len d); arms = λ d. resting 0 }
 
 -- ---- Changes of the state
 unfoldable pub changed {ℓ} : {A : Type ℓ} → (ℕ → A) → ℕ → A → ℕ → A
 changed f i x j = pick (eqb j i) x (f j)
 
 unfoldable pub with_sense : (drive : ℕ) → List ℕ → Machine → Machine
-with_sense drive sense m = record { buffer = m.buffer; senses = changed m.senses drive sense; disks = m.disks }
+with_sense drive sense m = record { buffer = m.buffer; senses = changed m.senses drive sense; disks = m.disks; arms = m.arms }
 
 unfoldable pub with_buffer : List ℕ → Machine → Machine
-with_buffer buffer m = record { buffer = buffer; senses = m.senses; disks = m.disks }
+with_buffer buffer m = record { buffer = buffer; senses = m.senses; disks = m.disks; arms = m.arms }
 
 unfoldable pub with_disk : (drive : ℕ) → Disk → Machine → Machine
-with_disk drive u m = record { buffer = m.buffer; senses = m.senses; disks = changed m.disks drive u }
+with_disk drive u m = record { buffer = m.buffer; senses = m.senses; disks = changed m.disks drive u; arms = m.arms }
+
+unfoldable pub with_arm : (drive : ℕ) → Arm → Machine → Machine
+with_arm drive arm m = record { buffer = m.buffer; senses = m.senses; disks = m.disks; arms = changed m.arms drive arm }
 
 -- A configuration or none comes into force, pending or not.
 unfoldable pub in_force : Option (List ℕ) → (pending : Bool) → Disk → Disk
@@ -130,7 +143,7 @@ storing at sector u = record {
 -- ---- How a call ends: a reply, and the machine after it. The sense bytes name a drive, of a command of one drive that drive.
 unfoldable pub failing_on : (named : ℕ) → Block → (code : ℕ) → Lba → (sectors : ℕ) → (handed : List ℕ) → Machine → Reply × Machine
 failing_on named b code at sectors handed m = (
-  record { number = 0; status = 2 + 32 * b.drive; message = 0; sectors = sectors; bytes = length handed; handed = handed },
+  record { number = 0; status = 2 + 32 * b.drive; message = 0; sectors = sectors; bytes = length handed; handed = handed; ways = [] },
   with_sense b.drive (sense_of code named at) m,
 )
 
@@ -139,7 +152,7 @@ failing b code at sectors handed m = failing_on b.drive b code at sectors handed
 
 unfoldable pub well : Block → (sectors : ℕ) → (handed : List ℕ) → Machine → Reply × Machine
 well b sectors handed m = (
-  record { number = 0; status = 32 * b.drive; message = 0; sectors = sectors; bytes = length handed; handed = handed },
+  record { number = 0; status = 32 * b.drive; message = 0; sectors = sectors; bytes = length handed; handed = handed; ways = [] },
   with_sense b.drive (sense_of 0 b.drive (record { 0 = 0 })) m,
 )
 
@@ -337,16 +350,16 @@ assign_alternate b p given m u =
     (with_disk b.drive (assign_to p (keeps b) (track_of p b.address) (track_of p (address_given given)) b.extra (filling b p m) u) m))
 
 -- Initialize: the configuration stored, which is valid, comes into force, not pending (request E1); another, pending, if it is valid
--- with precompensation in its bound (request E8), else 22h.
+-- with precompensation in its bound (request E8), else 22h. Left pending, its arm is at cylinder 0 (request E9).
 unfoldable pub is_stored : Option (List ℕ) → (config : List ℕ) → Bool
 is_stored none config = false
 is_stored (some stored) config = same_bytes stored config
 
 unfoldable pub initialize_by : (held fits : Bool) → Block → (config : List ℕ) → Machine → Disk → Reply × Machine
-initialize_by held fits b config m u =
-    pick (held || fits)
-    (well b 0 [] (with_disk b.drive (in_force (some config) (not held) u) m))
-    (failing b 0x22 b.address 0 [] m)
+initialize_by true fits b config m u = well b 0 [] (with_disk b.drive (in_force (some config) false u) m)
+initialize_by false true b config m u =
+    well b 0 [] (with_arm b.drive (resting 0) (with_disk b.drive (in_force (some config) true u) m))
+initialize_by false false b config m u = failing b 0x22 b.address 0 [] m
 
 -- ---- The commands, once their checks have passed
 unfoldable pub freely : Block → (given : List ℕ) → Machine → Disk → FreeCommand → Reply × Machine
@@ -358,10 +371,27 @@ freely b given m u Initialize =
     let config = take 10 given in
     initialize_by (is_stored u.stored config) (is_valid (setting_of medium config u.len) && precompensation_in medium config) b config m u
 
-unfoldable pub seeking : Block → Machine → ArmCommand → Reply × Machine
-seeking b m TestReady = well b 0 [] m
-seeking b m Recalibrate = well b 0 [] m
-seeking b m Seek = well b 0 [] m
+-- An arm sets out for a cylinder and travels there tick by tick on a hard disk with step option 1 to 4; on others it is there at once.
+unfoldable pub step_option : Option (List ℕ) → ℕ
+step_option none = 0
+step_option (some config) = byte config 3 / 16
+
+unfoldable pub set_out : (cylinder : ℕ) → Arm → Arm
+set_out cylinder arm = record { at = arm.at; goal = cylinder }
+
+unfoldable pub towards : Medium → (option cylinder : ℕ) → Arm → Arm
+towards Floppy option cylinder arm = resting cylinder
+towards HardDisk zero cylinder arm = resting cylinder
+towards HardDisk (suc option) cylinder arm = set_out cylinder arm
+
+unfoldable pub sent_to : Block → (cylinder : ℕ) → Machine → Disk → Reply × Machine
+sent_to b cylinder m u =
+    well b 0 [] (with_arm b.drive (towards (medium_of b.drive) (step_option u.force) cylinder (m.arms b.drive)) m)
+
+unfoldable pub seeking : Block → Params → Machine → Disk → ArmCommand → Reply × Machine
+seeking b p m u TestReady = well b 0 [] m
+seeking b p m u Recalibrate = sent_to b 0 m u
+seeking b p m u Seek = sent_to b (cylinder_of p (track_of p b.address)) m u
 
 unfoldable pub on_tracks : Block → Params → (given : List ℕ) → Machine → Disk → TrackCommand → Reply × Machine
 on_tracks b p given m u FormatDrive = format_drive b p m u
@@ -375,14 +405,35 @@ on_sectors b p given m u Read = read b p m u
 on_sectors b p given m u Write = write b p given m u
 
 unfoldable pub with_parameters : Block → Params → (given : List ℕ) → Machine → Disk → DiskCommand → Reply × Machine
-with_parameters b p given m u (ArmWork w) = seeking b m w
+with_parameters b p given m u (ArmWork w) = seeking b p m u w
 with_parameters b p given m u (TrackWork w) = on_tracks b p given m u w
 with_parameters b p given m u (SectorWork w) = on_sectors b p given m u w
+
+-- Where the arm rests after a command of tracks or sectors: where it was, if a command of tracks ends in a code or a transfer has done no
+-- sector; else a Format Drive leaves it at the last cylinder, the others at that of the track or of the last sector done.
+unfoldable pub at_sector : Params → Lba → (sectors : ℕ) → Arm → Arm
+at_sector p a zero arm = arm
+at_sector p a (suc n) arm = resting (cylinder_of p (track_of p (further a n)))
+
+unfoldable pub at_track : Block → Params → TrackCommand → Arm
+at_track b p FormatDrive = resting (p.cylinders - 1)
+at_track b p CheckTrack = resting (cylinder_of p (track_of p b.address))
+at_track b p FormatTrack = resting (cylinder_of p (track_of p b.address))
+at_track b p FormatBadTrack = resting (cylinder_of p (track_of p b.address))
+at_track b p AssignAlternate = resting (cylinder_of p (track_of p b.address))
+
+unfoldable pub rests : DiskCommand → Block → Params → Reply → Arm → Arm
+rests (ArmWork w) b p reply arm = arm
+rests (TrackWork w) b p reply arm = pick (eqb reply.status (32 * b.drive)) (at_track b p w) arm
+rests (SectorWork w) b p reply arm = at_sector p b.address reply.sectors arm
+
+unfoldable pub armed : Block → Params → DiskCommand → Reply × Machine → Reply × Machine
+armed b p w after = (after.0, with_arm b.drive (rests w b p after.0 (after.1.arms b.drive)) after.1)
 
 unfoldable pub carried : Block → Setting → (given : List ℕ) → Machine → Disk → Command → Reply × Machine
 carried b setting given m u (Free w) = freely b given m u w
 carried b Invalid given m u (OnDisk w) = failing b 0x0A b.address 0 [] m
-carried b (Valid p) given m u (OnDisk w) = with_parameters b p given m u w
+carried b (Valid p) given m u (OnDisk w) = armed b p w (with_parameters b p given m u w)
 carried b setting given m u Unknown = failing b 0x20 b.address 0 [] m
 -- Copy is two drives' command: it does not come here.
 carried b setting given m u Copy = failing b 0x20 b.address 0 [] m
@@ -392,13 +443,18 @@ unfoldable pub setting_with : Medium → Option (List ℕ) → (len : ℕ) → S
 setting_with medium none len = Invalid
 setting_with medium (some config) len = setting_of medium config len
 
-unfoldable pub seen : Medium → Disk → View
-seen medium u =
-    record { medium = medium; present = present_with u.len; setting = setting_with medium u.force u.len; pending = u.pending }
+unfoldable pub seen : Medium → Disk → Arm → View
+seen medium u arm = record {
+  medium = medium;
+  present = present_with u.len;
+  setting = setting_with medium u.force u.len;
+  pending = u.pending;
+  travelling = not (eqb arm.at arm.goal);
+}
 
 unfoldable pub ordered : Block → (given : List ℕ) → (area : ℕ) → Machine → Disk → Reply × Machine
 ordered b given area m u =
-    let view = seen (medium_of b.drive) u in
+    let view = seen (medium_of b.drive) u (m.arms b.drive) in
     providing (judge b view (length given) area) b m (carried b view.setting given m u (row_for b.opcode).command)
 
 -- ---- Copy (request E5): bytes run on from the source's sectors into the destination's
@@ -427,12 +483,36 @@ copy_ends k Passed Passed zero done before after = well k.from done [] after
 copy_ends k Passed Passed (suc rest) done before after =
     failing_on k.to.drive k.from 0x23 (further k.to.address (done - 1)) done [] after
 
+-- Each arm rests at its drive's last sector done (request E9). On one drive the later counts: the last sector written; at a destination
+-- fault, the source sector read for it, which is then the last of those read.
+unfoldable pub moves : (drive : ℕ) → Params → Lba → (sectors : ℕ) → Machine → Machine
+moves drive p a sectors m = with_arm drive (at_sector p a sectors (m.arms drive)) m
+
+unfoldable pub lesser : (m n : ℕ) → ℕ
+lesser m n = pick (leb m n) m n
+
+-- The source sectors whose bytes `done` sectors and one more need: no more than there are.
+unfoldable pub needed_for : (count done ds dd : ℕ) → ℕ
+needed_for count done ds dd = lesser count ((suc done * dd + (ds - 1)) / ds)
+
+unfoldable pub copy_moves : Verdict → CopyBlock → (p q : Params) → (read done : ℕ) → Machine → Machine
+copy_moves (Refused number) k p q read done m = m
+copy_moves (Faulty code at) k p q read done m =
+    moves k.from.drive p k.from.address (needed_for (count_of k.from) done p.size q.size)
+    (moves k.to.drive q k.to.address done m)
+copy_moves Passed k p q read done m =
+    moves k.to.drive q k.to.address done (moves k.from.drive p k.from.address read m)
+
+unfoldable pub copy_armed : Verdict → CopyBlock → (p q : Params) → (read done : ℕ) → Reply × Machine → Reply × Machine
+copy_armed end k p q read done after = (after.0, copy_moves end k p q read done after.1)
+
 unfoldable pub copy_over : CopyBlock → (p q : Params) → Machine → Reply × Machine
 copy_over k p q m =
     let r = read_from p (count_of k.from) k.from.address (m.disks k.from.drive) in
     let w = poured q k.to.address r (m.disks k.to.drive) in
-    copy_ends k w.end r.end (length (inARow r.sectors) % q.size) (length w.sectors) m
-    (with_disk k.to.drive w.disk (with_buffer (leaving w.sectors m.buffer) m))
+    copy_armed w.end k p q (length r.sectors) (length w.sectors)
+    (copy_ends k w.end r.end (length (inARow r.sectors) % q.size) (length w.sectors) m
+    (with_disk k.to.drive w.disk (with_buffer (leaving w.sectors m.buffer) m)))
 
 unfoldable pub copy_by : CopyBlock → (from to : Setting) → Machine → Reply × Machine
 copy_by k Invalid to m = failing k.from 0x0A k.from.address 0 [] m
@@ -441,18 +521,31 @@ copy_by k (Valid p) (Valid q) m = copy_over k p q m
 
 unfoldable pub ordered_copy : CopyBlock → Machine → Reply × Machine
 ordered_copy k m =
-    let v = seen (medium_of k.from.drive) (m.disks k.from.drive) in
-    let w = seen (medium_of k.to.drive) (m.disks k.to.drive) in
+    let v = seen (medium_of k.from.drive) (m.disks k.from.drive) (m.arms k.from.drive) in
+    let w = seen (medium_of k.to.drive) (m.disks k.to.drive) (m.arms k.to.drive) in
     let said = judge_copy k v w in
     providing_on said.named said.verdict k.from m (copy_by k v.setting w.setting m)
 
--- ---- Reset drops pending and returns to the stored configuration, map unchanged; buffer and senses are zero.
+-- ---- A tick moves each arm one cylinder nearer to where it goes; a report gives the cylinders still to go, inward positive.
+unfoldable pub nearer : Arm → Arm
+nearer arm = record {
+  at = pick (ltb arm.at arm.goal) (suc arm.at) (pick (ltb arm.goal arm.at) (arm.at - 1) arm.at);
+  goal = arm.goal;
+}
+
+unfoldable pub way_of : Arm → ℤ
+way_of arm = pos arm.goal -ℤ pos arm.at
+
+-- ---- Reset drops pending and returns to the stored configuration, map unchanged; buffer and senses are zero; arms stop, at cylinder 0.
 unfoldable pub restored : Disk → Disk
 restored u = in_force u.stored false u
 
--- Fed a Reset, or a command's block, given data and data area length.
+-- Fed a Reset, a tick, a report, or a command's block, given data and data area length.
 unfoldable pub step : Machine → Feed → Reply × Machine
-step m reset = (bare 0, record { buffer = replicate 512 0; senses = λ d. replicate 4 0; disks = λ d. restored (m.disks d) })
+step m reset =
+    (bare 0, record { buffer = replicate 512 0; senses = λ d. replicate 4 0; disks = λ d. restored (m.disks d); arms = λ d. resting 0 })
+step m tick = (bare 0, record { buffer = m.buffer; senses = m.senses; disks = m.disks; arms = λ d. nearer (m.arms d) })
+step m report = (telling (way_of (m.arms 0) ∷ way_of (m.arms 1) ∷ way_of (m.arms 2) ∷ way_of (m.arms 3) ∷ []), m)
 step m (command block given area) =
     pick (is_whole block)
     (pick (is_copy block) (ordered_copy (copy_of block) m) (ordered (block_of block) given area m (m.disks (block_of block).drive)))

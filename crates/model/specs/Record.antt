@@ -1,5 +1,5 @@
 -- The controller's record, what a command leaves, and the three ways in which one ends (document 01, table of returned values).
-use Rattle.std.specs.Prelude.{ℕ, ◌+◌, ◌*◌, false, List, get_or, replicate}
+use Rattle.std.specs.Prelude.{ℕ, ◌+◌, ◌*◌, false, List, get_or, replicate, pos}
 use Rattle.base.specs.Pick.{pick}
 use Rattle.base.specs.Part.{splice}
 use Rattle.geometry.specs.declared.params.Lba.{Lba}
@@ -15,15 +15,22 @@ use Rattle.model.specs.declared.verdict.Verdict.{Verdict}
 use Rattle.model.specs.declared.verdict.Verdict.TheVariants.{Refused, Faulty, Passed}
 use Rattle.model.specs.Sense.{sense_of}
 
--- A drive's entry without parameters, its sense zero.
+-- A drive's entry without parameters, its sense zero, its arm at cylinder 0.
 unfoldable pub blank_drive : Drive
-blank_drive = record { sense = replicate 4 0; config = replicate 10 0; known = false; pending = false }
+blank_drive = record { sense = replicate 4 0; config = replicate 10 0; known = false; pending = false; target = 0; way = pos 0 }
 
 unfoldable pub drive_at : Controller → (drive : ℕ) → Drive
 drive_at c drive = get_or c.drives drive blank_drive
 
 unfoldable pub sensed : List ℕ → Drive → Drive
-sensed sense entry = record { sense = sense; config = entry.config; known = entry.known; pending = entry.pending }
+sensed sense entry = record {
+  sense = sense;
+  config = entry.config;
+  known = entry.known;
+  pending = entry.pending;
+  target = entry.target;
+  way = entry.way;
+}
 
 -- Parameters not valid with the image lent at a call count there as none.
 unfoldable pub setting_in : Medium → Drive → (image : ℕ) → Setting

@@ -1,9 +1,9 @@
 -- Request E6, one drive's work and another's: two departments share a console, one disk each, and neither may see the other's.
--- Two lists of calls, each from a fresh controller, may differ freely in the commands that do not name drive d and in what the other
--- drives hold. If they have the same Resets and the same commands that name drive d, in the same order, none of these a Read Buffer, one
--- with control bit 5 or a Copy, and if drive d's first images are equal, then drive d's answers, its sense and parameters, and its image
--- are equal.
-use Rattle.std.specs.Prelude.{ℕ, ◌/◌, ◌%◌, ◌<◌, ◌≡◌, Bool, true, not, ◌&&◌, ◌||◌, List, [], ◌∷◌, eqb}
+-- Two lists of calls, each from a fresh controller, may differ freely in the commands that do not name drive d, in reports and in what the
+-- other drives hold. If they have the same Resets, ticks and commands that name drive d, in the same order, none of these a Read Buffer,
+-- one with control bit 5 or a Copy, and if drive d's first images are equal, then drive d's answers, its sense, parameters and arm, and its
+-- image are equal.
+use Rattle.std.specs.Prelude.{ℕ, ◌/◌, ◌%◌, ◌<◌, ◌≡◌, Bool, true, false, not, ◌&&◌, ◌||◌, List, [], ◌∷◌, eqb}
 use Rattle.base.specs.Pick.{pick}
 use Rattle.base.specs.Byte.{byte}
 use Rattle.model.specs.declared.record.Drive.{Drive}
@@ -11,16 +11,19 @@ use Rattle.model.specs.declared.record.Answer.{Answer}
 use Rattle.model.specs.Block.{is_copy, is_whole}
 use Rattle.model.specs.Record.{drive_at}
 use Rattle.model.specs.Engine.{Result, image_of}
-use Rattle.model.specs.Claim.{System, Call, Reset, Command, left_by, called, engine_at_end, begin}
+use Rattle.model.specs.Claim.{System, Call, Reset, Tick, Report, Command, left_by, called, engine_at_end, begin}
 
 -- ---- What names a drive: bits 6-5 of byte 1, whatever the opcode and bit 7; of a Copy those of byte 5 too. A block that is not
 -- whole names none.
 unfoldable pub names : (d : ℕ) → (block : List ℕ) → Bool
 names d block = is_whole block && (eqb (byte block 1 / 32 % 4) d || (is_copy block && eqb (byte block 5 / 32 % 4) d))
 
--- The calls of a list that concern drive d: every Reset, and the commands that name it, each with its given data and its data area.
+-- The calls of a list that concern drive d: every Reset, every tick (request E9), and the commands that name it, each with its given data
+-- and its data area. A report changes nothing and may stand anywhere.
 unfoldable pub concerns : (d : ℕ) → Call → Bool
 concerns d Reset = true
+concerns d Tick = true
+concerns d Report = false
 concerns d (Command block given area) = names d block
 
 unfoldable pub calls_of : (d : ℕ) → List Call → List Call
@@ -39,6 +42,8 @@ excluded block = uses_buffer block || is_copy block
 -- A call may stand in the list, where such blocks are out.
 unfoldable pub may_stand : (out : List ℕ → Bool) → Call → Bool
 may_stand out Reset = true
+may_stand out Tick = true
+may_stand out Report = true
 may_stand out (Command block given area) = not (out block)
 
 unfoldable pub all_may_stand : (out : List ℕ → Bool) → List Call → Bool
@@ -59,7 +64,7 @@ heard d s (call ∷ calls) =
     let later = heard d (called s call).1 calls in
     pick (concerns d call) (heard_of (left_by s call) ∷ later) later
 
--- and at the end what drive d has: its entry (four sense bytes, parameters in force, whether pending) and its image.
+-- and at the end what drive d has: its entry (four sense bytes, parameters in force, whether pending, its arm) and its image.
 pub record Own : Type 0 where
   pub entry : Drive
   pub image : List ℕ

@@ -20,6 +20,8 @@ pub data Check : Type 0 where
   Present : Check
   -- 0Ah
   Parameters : Check
+  -- 08h (request E9)
+  Arrived : Check
   -- byte 4 is an interleave: 22h
   Interleave : Check
   -- 21h; with Counted, byte 4 is a count, and the last address is checked too
@@ -40,6 +42,7 @@ check_number Counted = 7
 check_number Settled = 8
 check_number SparedWhole = 9
 check_number KeepBit = 10
+check_number Arrived = 11
 
 unfoldable pub is_among : Check → List Check → Bool
 is_among check [] = false
@@ -61,10 +64,10 @@ row command checks takes gives = record { command = command; checks = checks; ta
 
 -- the checks of every command that works on the disk; of those, the ones with an address
 abbrev pub drive_checks : List Check
-drive_checks = Present ∷ Parameters ∷ []
+drive_checks = Present ∷ Parameters ∷ Arrived ∷ []
 
 abbrev pub address_checks : List Check
-address_checks = Control ∷ Present ∷ Parameters ∷ Address ∷ Settled ∷ []
+address_checks = Control ∷ Present ∷ Parameters ∷ Arrived ∷ Address ∷ Settled ∷ []
 
 abbrev pub unknown : TableRow
 unknown = row Unknown [] Nothing Nothing
@@ -88,7 +91,7 @@ table =
     ∷ row (OnDisk (TrackWork AssignAlternate)) (HardOnly ∷ FillBit ∷ KeepBit ∷ Interleave ∷ address_checks) Alternate Nothing
     ∷ row (Free WriteBuffer) [] Buffer Nothing
     ∷ row (Free ReadBuffer) [] Nothing Buffer
-    ∷ row (Free Initialize) (Present ∷ []) Configuration Nothing
+    ∷ row (Free Initialize) (Present ∷ Arrived ∷ []) Configuration Nothing
     ∷ unknown ∷ unknown ∷ unknown ∷ unknown ∷ unknown ∷ unknown ∷ unknown
     ∷ unknown ∷ unknown ∷ unknown ∷ unknown ∷ unknown ∷ unknown ∷ unknown
     ∷ row Copy (Counted ∷ address_checks) Nothing Nothing

@@ -5,7 +5,7 @@ use Rattle.std.specs.Prelude.{ℕ, Bool, true, not, ◌&&◌, ◌||◌, List, []
 use Rattle.base.specs.Pick.{pick}
 use Rattle.base.specs.Byte.{byte}
 use Rattle.model.specs.Block.{is_copy, is_whole}
-use Rattle.model.specs.Claim.{Call, Reset, Command}
+use Rattle.model.specs.Claim.{Call, Reset, Tick, Report, Command}
 use Rattle.model.specs.Separation.{names, calls_of, uses_buffer, all_may_stand, SeparationWhere}
 
 -- ---- The buffer is clean while it holds nothing of other drives. Reset zeroes it, and a Write Buffer of drive d that is taken fills it:
@@ -16,11 +16,15 @@ fills_buffer block given = eqb (byte block 0) 0x0F && (ltb (byte block 1) 128 &&
 
 unfoldable pub clean_after : (d : ℕ) → (clean : Bool) → Call → Bool
 clean_after d clean Reset = true
+clean_after d clean Tick = clean
+clean_after d clean Report = clean
 clean_after d clean (Command block given area) = pick (names d block) (clean || fills_buffer block given) (clean && not (is_whole block))
 
 -- A command that names drive d is in its turn if it is no Copy, and does not use the buffer or finds it clean.
 unfoldable pub in_its_turn : (d : ℕ) → (clean : Bool) → Call → Bool
 in_its_turn d clean Reset = true
+in_its_turn d clean Tick = true
+in_its_turn d clean Report = true
 in_its_turn d clean (Command block given area) = not (names d block) || (not (is_copy block) && (clean || not (uses_buffer block)))
 
 unfoldable pub in_turns : (d : ℕ) → (clean : Bool) → List Call → Bool
@@ -36,6 +40,8 @@ SeparationInTurns = SeparationWhere (λ d calls. in_turns d true calls)
 unfoldable pub reset_between : (d : ℕ) → (alone : Bool) → List Call → Bool
 reset_between d alone [] = true
 reset_between d alone (Reset ∷ calls) = reset_between d true calls
+reset_between d alone (Tick ∷ calls) = reset_between d alone calls
+reset_between d alone (Report ∷ calls) = reset_between d alone calls
 reset_between d alone (Command block given area ∷ calls) =
     (alone || not (names d block)) && reset_between d (alone && (names d block || not (is_whole block))) calls
 

@@ -7,6 +7,10 @@ pub struct Drive {
     pub config: [u8; 10],
     pub known: bool,
     pub pending: bool,
+    // the cylinder where the arm rests or where it goes
+    pub target: u16,
+    // the cylinders still to go, positive inward
+    pub way: i32,
 }
 
 #[repr(C)]
@@ -32,6 +36,41 @@ pub struct Answer {
 #[derive(Drop)]
 pub struct Ending {
     pub entry: Drive,
+    pub answer: Answer,
+}
+
+// Of each drive the cylinders still to go.
+#[repr(C)]
+#[derive(Drop)]
+pub struct Ways {
+    pub ways: [i32; 4],
+}
+
+// A drive whose arm comes to rest at a cylinder, if it has moved.
+#[derive(Drop)]
+pub struct Arrival {
+    pub drive: u8,
+    pub moved: bool,
+    pub cylinder: u16,
+}
+
+// A Copy's two arms, in the order of time.
+#[derive(Drop)]
+pub struct CopyArms {
+    pub first: Arrival,
+    pub second: Arrival,
+}
+
+#[derive(Drop)]
+pub struct CopyEnding {
+    pub ending: Ending,
+    pub arms: CopyArms,
+}
+
+// What a call leaves beside the buffer: the drives' entries, and the answer.
+#[derive(Drop)]
+pub struct Ran {
+    pub drives: [Drive; 4],
     pub answer: Answer,
 }
 

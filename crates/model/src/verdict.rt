@@ -12,6 +12,8 @@ pub struct View {
     // the parameters in force, judged with the image lent
     pub setting: Setting,
     pub pending: bool,
+    // its arm is on its way
+    pub travelling: bool,
 }
 
 // The checks that hit, in document 01's order.
@@ -25,6 +27,8 @@ pub struct Hits {
     pub absent: bool,
     // 0Ah
     pub unset: bool,
+    // 08h
+    pub travelling: bool,
     // 22h
     pub interleave: bool,
     // 21h

@@ -6,7 +6,7 @@ use Prim.Native.Nat.{ℕ, zero, suc, ◌+◌, ◌-◌, ◌≤◌, ◌<◌}
 use native.Mathlib.Omega.{arith}
 use native.Mathlib.Nat.{le_of_suc-le-suc, not-suc-le-zero, zero-add, suc-add}
 use lib.ListN.{length, take, drop, get_or}
-use Rattle.model.specs.Table.{Check, HardOnly, Control, FillBit, Present, Parameters, Interleave, Address, Counted, Settled, SparedWhole, KeepBit, check_number, is_among, TableRow, applies, row, address_checks, table, unknown, row_for}
+use Rattle.model.specs.Table.{Check, HardOnly, Control, FillBit, Present, Parameters, Interleave, Address, Counted, Settled, SparedWhole, KeepBit, Arrived, check_number, is_among, TableRow, applies, row, address_checks, table, unknown, row_for}
 use Rattle.model.specs.declared.table.Command.TheVariants.{Copy}
 use Rattle.model.specs.declared.table.Data.TheVariants.{Nothing}
 use Rattle.table.specs.declared.rows.Row.{Row}
@@ -34,33 +34,35 @@ row_from e = record { command = e.command; checks = bits_of e.checks; takes = e.
 unfoldable pub rows : List Row
 rows = map row_from (take 18 table)
 
--- ---- each check's bit is set where it applies: eleven answers a row, compared by computing
-eleven : (Check → Bool) → List Bool
-eleven f =
-    map f (HardOnly ∷ Control ∷ FillBit ∷ Present ∷ Parameters ∷ Interleave ∷ Address ∷ Counted ∷ Settled ∷ SparedWhole ∷ KeepBit ∷ [])
+-- ---- each check's bit is set where it applies: twelve answers a row, compared by computing
+twelve : (Check → Bool) → List Bool
+twelve f =
+    map f (HardOnly ∷ Control ∷ FillBit ∷ Present ∷ Parameters ∷ Interleave ∷ Address ∷ Counted ∷ Settled ∷ SparedWhole ∷ KeepBit ∷ Arrived
+    ∷ [])
 
-eleven_each : (f g : Check → Bool) → eleven f ≡ eleven g → (check : Check) → f check ≡ g check
-unfolding eleven
-eleven_each f g h HardOnly = ap (λ l. get_or l 0 (f HardOnly)) h
-eleven_each f g h Control = ap (λ l. get_or l 1 (f HardOnly)) h
-eleven_each f g h FillBit = ap (λ l. get_or l 2 (f HardOnly)) h
-eleven_each f g h Present = ap (λ l. get_or l 3 (f HardOnly)) h
-eleven_each f g h Parameters = ap (λ l. get_or l 4 (f HardOnly)) h
-eleven_each f g h Interleave = ap (λ l. get_or l 5 (f HardOnly)) h
-eleven_each f g h Address = ap (λ l. get_or l 6 (f HardOnly)) h
-eleven_each f g h Counted = ap (λ l. get_or l 7 (f HardOnly)) h
-eleven_each f g h Settled = ap (λ l. get_or l 8 (f HardOnly)) h
-eleven_each f g h SparedWhole = ap (λ l. get_or l 9 (f HardOnly)) h
-eleven_each f g h KeepBit = ap (λ l. get_or l 10 (f HardOnly)) h
+twelve_each : (f g : Check → Bool) → twelve f ≡ twelve g → (check : Check) → f check ≡ g check
+unfolding twelve
+twelve_each f g h HardOnly = ap (λ l. get_or l 0 (f HardOnly)) h
+twelve_each f g h Control = ap (λ l. get_or l 1 (f HardOnly)) h
+twelve_each f g h FillBit = ap (λ l. get_or l 2 (f HardOnly)) h
+twelve_each f g h Present = ap (λ l. get_or l 3 (f HardOnly)) h
+twelve_each f g h Parameters = ap (λ l. get_or l 4 (f HardOnly)) h
+twelve_each f g h Interleave = ap (λ l. get_or l 5 (f HardOnly)) h
+twelve_each f g h Address = ap (λ l. get_or l 6 (f HardOnly)) h
+twelve_each f g h Counted = ap (λ l. get_or l 7 (f HardOnly)) h
+twelve_each f g h Settled = ap (λ l. get_or l 8 (f HardOnly)) h
+twelve_each f g h SparedWhole = ap (λ l. get_or l 9 (f HardOnly)) h
+twelve_each f g h KeepBit = ap (λ l. get_or l 10 (f HardOnly)) h
+twelve_each f g h Arrived = ap (λ l. get_or l 11 (f HardOnly)) h
 
 bits : TableRow → List Bool
-bits e = eleven (λ check. has (bits_of e.checks) (bit_of check))
+bits e = twelve (λ check. has (bits_of e.checks) (bit_of check))
 
 applied : TableRow → List Bool
-applied e = eleven (λ check. applies check e)
+applied e = twelve (λ check. applies check e)
 
 table_bits : map bits (unknown ∷ table) ≡ map applied (unknown ∷ table)
-unfolding eleven bits applied has bit_of bits_of is_among check_number
+unfolding twelve bits applied has bit_of bits_of is_among check_number
 table_bits = refl
 
 entry_bits : (opcode : ℕ) → bits (row_for opcode) ≡ applied (row_for opcode)
@@ -69,7 +71,7 @@ entry_bits opcode = row_stands bits table opcode unknown ∙ (ap (λ l. get_or l
 
 row_says : (opcode : ℕ) → Says (row_from (row_for opcode)) (row_for opcode)
 unfolding row_from bits applied
-row_says opcode = record { command = refl; takes = refl; gives = refl; checks = eleven_each _ _ (entry_bits opcode) }
+row_says opcode = record { command = refl; takes = refl; gives = refl; checks = twelve_each _ _ (entry_bits opcode) }
 
 -- the code's table ends behind 11h
 front_read : {A : Type 0} (l : List A) (n i : ℕ) (d : A) → i < n → get_or (take n l) i d ≡ get_or l i d

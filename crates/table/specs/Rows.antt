@@ -1,6 +1,6 @@
 -- A row of the code's table, whose checks are bits, and the row that it stands for.
 use Rattle.std.specs.Prelude.{ℕ, ◌/◌, ◌%◌, ◌≡◌, Bool, eqb}
-use Rattle.model.specs.Table.{Check, HardOnly, Control, FillBit, Present, Parameters, Interleave, Address, Counted, Settled, SparedWhole, KeepBit, TableRow, applies}
+use Rattle.model.specs.Table.{Check, HardOnly, Control, FillBit, Present, Parameters, Interleave, Address, Counted, Settled, SparedWhole, KeepBit, Arrived, TableRow, applies}
 use Rattle.table.specs.declared.rows.Row.{Row}
 
 unfoldable pub has : (checks bit : ℕ) → Bool
@@ -18,6 +18,7 @@ bit_of Counted = 128
 bit_of Settled = 256
 bit_of SparedWhole = 512
 bit_of KeepBit = 1024
+bit_of Arrived = 2048
 
 pub record Says (row : Row) (e : TableRow) : Type 0 where
   pub command : row.command ≡ e.command

@@ -31,10 +31,12 @@ pub const SETTLED: u16 = 256;
 pub const SPARED_WHOLE: u16 = 512;
 // control bit 4 is defined
 pub const KEEP_BIT: u16 = 1024;
+// 08h
+pub const ARRIVED: u16 = 2048;
 
-const ON_DRIVE: u16 = PRESENT + PARAMETERS;
+const ON_DRIVE: u16 = PRESENT + PARAMETERS + ARRIVED;
 
-const AT_ADDRESS: u16 = CONTROL + PRESENT + PARAMETERS + ADDRESS + SETTLED;
+const AT_ADDRESS: u16 = CONTROL + PRESENT + PARAMETERS + ARRIVED + ADDRESS + SETTLED;
 
 #[derive(Drop)]
 pub struct Row {
@@ -136,7 +138,7 @@ const TABLE: [Row; 18] = [
     },
     Row {
         command: Command::Free(FreeCommand::Initialize),
-        checks: PRESENT,
+        checks: PRESENT + ARRIVED,
         takes: Data::Configuration,
         gives: Data::Nothing,
     },

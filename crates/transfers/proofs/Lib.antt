@@ -1,3 +1,4 @@
+pub mod Counts
 pub mod Finishes
 pub mod ReadEnds
 pub mod WriteEnds

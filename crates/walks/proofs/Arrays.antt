@@ -2,9 +2,9 @@
 --     field_out, field_back    a field of a struct's cell as a cell of its own, beside the way back; and the struct's cell with another value there
 --     lends_array      an array's cell is lent as a `&mut [T; n]`, for a lifetime of the walk's own
 --     array_back       once that lifetime is over the array's cell is there again, with the elements that the reference showed last
---     array_through    what is known of a record's array of records, as it is known of an array by value
+--     array_through, array_within      what is known of a record's array of records, as it is known of an array by value; and back
 -- A record has each array through a map, which for numbers changes nothing. `lends_array` and `array_back` are about such an array.
--- The steps take `Logic`. `array_through` assumes nothing.
+-- The steps take `Logic`. `array_through` and `array_within` assume nothing.
 use mathlib.Core.Path.{◌≡◌, sym, ◌∙◌, subst}
 use Prim.Native.Nat.{ℕ, zero, ◌+◌}
 use mathlib.Core.List.{List, [], ◌∷◌, map, map-id}
@@ -98,5 +98,14 @@ module _ (R : RattleType) (D : Type 0) (to : D → R.Denot) (one : (x y : D) →
   each_through (x ∷ xs) [] s = s
   each_through (x ∷ xs) (u ∷ us) s = (s.0, each_through xs us s.1)
 
+  each_within : (xs : List D) (us : List Val) → shadow (each D (Recorded R D to one).own xs us) → shadow (each R.Denot R.own (map to xs) us)
+  each_within [] [] s = s
+  each_within [] (u ∷ us) s = s
+  each_within (x ∷ xs) [] s = s
+  each_within (x ∷ xs) (u ∷ us) s = (s.0, each_within xs us s.1)
+
   pub array_through : (n : ℕ) (xs : List D) (vs : List Val) → Is (Array R n) (map to xs) vs → Is (Array (Recorded R D to one) n) xs vs
   array_through n xs vs p = (p.0, ((p.1.0.0, sym (length-map xs to) ∙ p.1.0.1), each_through xs p.0 p.1.1))
+
+  pub array_within : (n : ℕ) (xs : List D) (vs : List Val) → Is (Array (Recorded R D to one) n) xs vs → Is (Array R n) (map to xs) vs
+  array_within n xs vs p = (p.0, ((p.1.0.0, length-map xs to ∙ p.1.0.1), each_within xs p.0 p.1.1))

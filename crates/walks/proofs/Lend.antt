@@ -3,7 +3,7 @@
 --     Lends            such a function's types: the record's, the result's, and the other parameters', each with its `Kept` and how it is spelled
 --     lent, lent_stays     its signature, with each parameter's `Kept`; what is had of the parameters at exit
 --     Call F           what it is called with: the record's lifetime and a share of its token, and the others'; the reference and the record
---                      behind it; the others
+--                      behind it; the others.        called     the same, of what a triple binds
 --     entry, end       what there is on entry, at the machine values written out; the postcondition in which a walk ends
 --     suited           the machine values are of their types
 --     splits           on entry: the borrow of the record beside its token, what the others own and their tokens
@@ -65,6 +65,20 @@ pub record Call (F : Lends) : Type 0 where
   pub name : GName
   pub held : F.record_row.Denot
   pub passed : Denots (types_at F.slots (life, lives))
+
+abbrev pub called : (F : Lends) (κs : Lfts (suc F.lifetimes)) → Shares (suc F.lifetimes)
+    → MutBor F.record_row.Denot × Denots (types_at F.slots κs) → Call F
+called F κs qs a = record {
+  life = κs.0;
+  lives = κs.1;
+  share = qs.0;
+  shares = qs.1;
+  block = a.0.ptr.0;
+  offset = a.0.ptr.1;
+  name = a.0.name;
+  held = a.0.now;
+  passed = a.1;
+}
 
 module _ (F : Lends) where
   abbrev pub lent : Ended
@@ -170,18 +184,4 @@ module _ (F : Lends) where
         walk_Meets 𝓛 lent lent_stays lent_go c (WpFn 𝓤 H 𝓣.C 𝓣.Λ f) (WpFn-mono 𝓤 H 𝓛.laws 𝓣 f)
         (walked 𝓛 lent lent_stays c (WpFn 𝓤 H 𝓣.C 𝓣.Λ f) (λ κs. (mut_vals, spells (types_at F.slots κs) (F.spelled κs)))
         (λ κs. (mut_Tells (named 0) κs.0 F.record_row, tellss (types_at F.slots κs) (F.spelled κs)))
-        (λ κs qs bounds a g known. via 𝓤 _ (fst∗ 𝓤 _ ((c κs a).requires g)) (walk (call κs qs a) g known.1)))
-      where
-        call : (κs : Lfts (suc F.lifetimes)) (qs : Shares (suc F.lifetimes))
-            → MutBor F.record_row.Denot × Denots (types_at F.slots κs) → Call F
-        call κs qs a = record {
-          life = κs.0;
-          lives = κs.1;
-          share = qs.0;
-          shares = qs.1;
-          block = a.0.ptr.0;
-          offset = a.0.ptr.1;
-          name = a.0.name;
-          held = a.0.now;
-          passed = a.1;
-        }
+        (λ κs qs bounds a g known. via 𝓤 _ (fst∗ 𝓤 _ ((c κs a).requires g)) (walk (called F κs qs a) g known.1)))

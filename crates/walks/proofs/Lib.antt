@@ -6,3 +6,4 @@ pub mod Arrays
 pub mod Passed
 pub mod Callee
 pub mod Lend
+pub mod Show

@@ -1,14 +1,16 @@
 //! Comparison of any engine with the document, on seeded calls. An engine is made by a closure from
 //! a controller record.
 
+use std::iter::once;
 use std::mem::take;
 use std::time::{Duration, Instant};
 
+use crate::arms::{self, Seen, Watch};
 use crate::duplicates;
 use crate::engine::{apply, Call, Engine, Step};
 use crate::keeps;
 use crate::machine::{Machine, Reply};
-use crate::outcome::{Outcome, Setting};
+use crate::outcome::{same_ways, Outcome, Setting};
 use crate::paper::{self, Geometry, Kind};
 use crate::plain::{Answer, Controller};
 use crate::random::{self, Caller, Random, Scale};
@@ -21,7 +23,7 @@ const RUNS: u64 = 4;
 const TIME_PER_RUN: Duration = Duration::from_secs(10);
 
 /// Starts of a run; a wide one takes some hundred times as long as a small one.
-const LISTS: [(Scale, u64); 2] = [(Scale::Wide, 2), (Scale::Small, 1_500)];
+const LISTS: [(Scale, u64); 3] = [(Scale::Wide, 2), (Scale::Long, 8), (Scale::Small, 1_500)];
 const DAMAGED: [(Scale, u64); 2] = [(Scale::Wide, 3), (Scale::Small, 5_000)];
 
 /// One list of so many is also compared by the whole outcome of every call.
@@ -68,14 +70,27 @@ fn runs(
     sum
 }
 
-/// (1) Lists from fresh zero images: every answer and the data handed over are the machine's, and
-/// in the end the images hold what the machine holds.
+/// (1) Lists from fresh zero images: every answer, the data handed over and the ways reported are the
+/// machine's, and in the end the images hold what the machine holds.
 pub fn lists<E: Engine>(
     make: &impl Fn(&Controller) -> E,
     scale: Scale,
     bounds: Bounds,
 ) -> Result<Tally, String> {
-    each_start(bounds, |seed, tally| one_list(make, scale, seed, tally))
+    each_start(bounds, |seed, tally| {
+        let whole = seed.is_multiple_of(LISTS_PER_WHOLE_COMPARISON);
+        one_list(make, scale, seed, whole, tally)
+    })
+}
+
+/// The same without any whole outcome: the record is not looked at, so that an arm shows in the ways and
+/// in 08h alone.
+pub fn lists_by_answers<E: Engine>(
+    make: &impl Fn(&Controller) -> E,
+    scale: Scale,
+    bounds: Bounds,
+) -> Result<Tally, String> {
+    each_start(bounds, |seed, tally| one_list(make, scale, seed, false, tally))
 }
 
 /// (2) Damaged images and arbitrary records: every call's outcome is the document's.
@@ -109,6 +124,8 @@ pub(crate) fn at_call(index: u32, step: &Step, what: String) -> String {
         Call::Execute { block, given } => {
             format!("block {block:02X?}, {} given, area {}", given.len(), step.area.len())
         }
+        Call::Tick => "tick".to_string(),
+        Call::Report => "report".to_string(),
     };
     format!("call {index} ({call}): {what}")
 }
@@ -128,6 +145,7 @@ fn one_list<E: Engine>(
     make: &impl Fn(&Controller) -> E,
     scale: Scale,
     seed: u64,
+    whole: bool,
     tally: &mut Tally,
 ) -> Result<(), String> {
     let mut random = Random::new(seed);
@@ -136,15 +154,17 @@ fn one_list<E: Engine>(
     // Fresh means after Reset, whatever the record was.
     let engine = make(&random::record(&mut random, [None; 4]));
     let calls = 30 + random.below(120);
-    let mut caller = Caller::new(random, scale, lengths);
-    let whole = seed.is_multiple_of(LISTS_PER_WHOLE_COMPARISON);
-    let mut list = List { engine, machine: Machine::fresh(lengths), images, whole };
-    let first = Step { call: Call::Reset, area: Vec::new() };
-    let others = (0..calls).map(|_| caller.step());
-    let steps = std::iter::once(first).chain(others).chain(closing_steps());
+    let others = Caller::new(random, scale, lengths).list(calls);
+    let machine = Machine::fresh(lengths);
+    let mut list = List { engine, machine, images, whole, watch: Watch::default() };
+    let steps = once(Step::of(Call::Reset)).chain(others).chain(closing_steps());
+    let mut both = 0;
     for (index, step) in (0..).zip(steps) {
+        both += u64::from(list.both_travel());
         list.do_step(&step, tally).map_err(|what| at_call(index, &step, what))?;
     }
+    tally.both_calls += both;
+    tally.both_starts += u64::from(both > 0);
     for drive in 0..4 {
         let looked_up = look_up(&list.machine, drive, &list.images[drive])?;
         tally.add(Kind::of(drive), Event::LookedUp, looked_up);
@@ -159,14 +179,22 @@ struct List<E> {
     images: [Vec<u8>; 4],
     /// Whether whole outcomes are compared.
     whole: bool,
+    watch: Watch,
 }
 
 impl<E: Engine> List<E> {
+    fn both_travel(&self) -> bool {
+        self.machine.report()[..2].iter().all(|&way| way != 0)
+    }
+
     fn do_step(&mut self, step: &Step, tally: &mut Tally) -> Result<(), String> {
         let reply = match &step.call {
             Call::Reset => self.machine.reset(),
             Call::Execute { block, given } => self.machine.command(block, given, step.area.len()),
+            Call::Tick => self.machine.tick(),
+            Call::Report => Reply::default(),
         };
+        let before = self.engine.record().drives;
         let mut area = step.area.clone();
         let answer = if self.whole {
             compared_call(&mut self.engine, &step.call, &mut area, &mut self.images, tally)?
@@ -174,19 +202,23 @@ impl<E: Engine> List<E> {
             apply(&mut self.engine, &step.call, &mut area, &mut self.images)
         };
         same_reply(&reply, &answer, &step.area, &area)?;
-        count(tally, &step.call, &answer, &self.engine, &self.images);
+        same_ways(self.machine.report(), self.engine.report())?;
+        let after = self.engine.record().drives;
+        let (call, images) = (&step.call, &self.images);
+        count(
+            tally,
+            &mut self.watch,
+            &Seen { call, answer: &answer, before: &before, after: &after, images },
+        );
         Ok(())
     }
 }
 
-fn count<E: Engine>(
-    tally: &mut Tally,
-    call: &Call,
-    answer: &Answer,
-    engine: &E,
-    images: &[Vec<u8>; 4],
-) {
-    tally.count(call, answer, &engine.record().drives, images);
+fn count(tally: &mut Tally, watch: &mut Watch, seen: &Seen) {
+    tally.count(seen.call, seen.answer, seen.after, seen.images);
+    for (kind, event) in watch.see(seen) {
+        tally.add(kind, event, 1);
+    }
 }
 
 /// Lets an engine do a call and compares the whole outcome.
@@ -197,6 +229,11 @@ fn compared_call<E: Engine>(
     images: &mut [Vec<u8>; 4],
     tally: &mut Tally,
 ) -> Result<Answer, String> {
+    // Ticks and reports are lent no image.
+    let aside = match call {
+        Call::Tick | Call::Report => take(images),
+        Call::Reset | Call::Execute { .. } => Default::default(),
+    };
     let before = Setting { controller: engine.record(), area: take(area), images: take(images) };
     let found = Outcome::by(engine, before.clone(), call);
     let onto_taken = keeps::onto_taken(call, &before);
@@ -209,6 +246,9 @@ fn compared_call<E: Engine>(
         tally.add(kind, Event::Resent { keep }, 1);
     }
     (*area, *images) = (found.setting.area, found.setting.images);
+    if matches!(call, Call::Tick | Call::Report) {
+        *images = aside;
+    }
     Ok(found.answer)
 }
 
@@ -255,15 +295,22 @@ fn one_damaged<E: Engine>(
     let random::Damaged { controller, mut images, mut caller } =
         random::damaged(Random::new(seed), scale);
     let mut engine = make(&controller);
-    for index in 0..1 + caller.random.below(24) {
+    let (mut watch, mut both) = (Watch::default(), 0);
+    for index in 0..1 + caller.random.below(30) {
         if caller.random.chance(10) {
             caller.disturb(&mut images);
         }
         let step = caller.step();
+        let before = engine.record().drives;
+        both += u64::from(arms::both_travel(&before));
         let mut area = step.area.clone();
         let answer = compared_call(&mut engine, &step.call, &mut area, &mut images, tally)
             .map_err(|what| at_call(index, &step, what))?;
-        count(tally, &step.call, &answer, &engine, &images);
+        let after = engine.record().drives;
+        let (call, answer, images) = (&step.call, &answer, &images);
+        count(tally, &mut watch, &Seen { call, answer, before: &before, after: &after, images });
     }
+    tally.both_calls += both;
+    tally.both_starts += u64::from(both > 0);
     Ok(())
 }

@@ -16,6 +16,12 @@ pub trait Engine {
         images: [&mut [u8]; 4],
     ) -> Answer;
 
+    /// Moves every travelling arm one cylinder (request E9).
+    fn tick(&mut self);
+
+    /// Each drive's signed way.
+    fn report(&self) -> [i32; 4];
+
     /// The controller record as it stands.
     fn record(&self) -> Controller;
 }
@@ -35,6 +41,14 @@ impl Engine for Controller {
         Controller::execute(self, block, given, area, images)
     }
 
+    fn tick(&mut self) {
+        Controller::tick(self);
+    }
+
+    fn report(&self) -> [i32; 4] {
+        Controller::report(self)
+    }
+
     fn record(&self) -> Controller {
         self.clone()
     }
@@ -44,7 +58,15 @@ impl Engine for Controller {
 #[derive(Clone, Debug, PartialEq, Eq)]
 pub enum Call {
     Reset,
-    Execute { block: Vec<u8>, given: Vec<u8> },
+    Execute {
+        block: Vec<u8>,
+        given: Vec<u8>,
+    },
+    /// Tick and report (request E9) are lent neither an image nor a data area, and answer nothing. After
+    /// every call the ways are compared, so that a report in a list is one more that has to leave all as
+    /// it is.
+    Tick,
+    Report,
 }
 
 /// A call with a data area of its own, as lent.
@@ -52,6 +74,13 @@ pub enum Call {
 pub struct Step {
     pub call: Call,
     pub area: Vec<u8>,
+}
+
+impl Step {
+    /// A call that has no data area.
+    pub fn of(call: Call) -> Step {
+        Step { call, area: Vec::new() }
+    }
 }
 
 /// Images as they are lent to a Reset.
@@ -74,5 +103,13 @@ pub fn apply<E: Engine>(
     match call {
         Call::Reset => engine.reset(lent(images)),
         Call::Execute { block, given } => engine.execute(block, given, area, lent_mut(images)),
+        Call::Tick => {
+            engine.tick();
+            Answer::default()
+        }
+        Call::Report => {
+            engine.report();
+            Answer::default()
+        }
     }
 }

@@ -8,8 +8,9 @@
 //! - [`random`], [`compare`], [`examples`]: what is tried, for any [`engine::Engine`].
 //! - [`separation`]: that one drive's work does not show in another's (request E6).
 //! - [`power`]: that no sector is lost where power fails during a move (request E7).
-//! - [`bounds`], [`copies`], [`duplicates`], [`keeps`], [`tally`]: what was reached.
+//! - [`arms`], [`bounds`], [`copies`], [`duplicates`], [`keeps`], [`tally`]: what was reached.
 
+pub mod arms;
 pub mod bounds;
 pub mod compare;
 pub mod copies;

@@ -9,7 +9,7 @@ use crate::paper::{
 use crate::plain::Answer;
 
 /// An answer with the data handed over.
-#[derive(Clone, Debug, PartialEq, Eq)]
+#[derive(Clone, Debug, Default, PartialEq, Eq)]
 pub struct Reply {
     pub answer: Answer,
     pub data: Vec<u8>,
@@ -37,12 +37,39 @@ struct Drive {
     pending: bool,
     tracks: BTreeMap<u32, Track>,
     held: BTreeMap<u32, Rc<[u8]>>,
+    arm: Arm,
+}
+
+/// An arm (request E9): the cylinder where it is, and the one where it is to be.
+#[derive(Clone, Copy, Default)]
+struct Arm {
+    cylinder: u32,
+    goal: u32,
 }
 
 pub struct Machine {
     buffer: [u8; 512],
     senses: [[u8; 4]; 4],
     drives: [Drive; 4],
+}
+
+impl Arm {
+    fn at(cylinder: u32) -> Arm {
+        Arm { cylinder, goal: cylinder }
+    }
+
+    /// Cylinders up to the goal, positive inward.
+    fn way(self) -> i32 {
+        self.goal as i32 - self.cylinder as i32
+    }
+
+    fn step(&mut self) {
+        if self.cylinder < self.goal {
+            self.cylinder += 1;
+        } else if self.cylinder > self.goal {
+            self.cylinder -= 1;
+        }
+    }
 }
 
 impl Drive {
@@ -55,6 +82,7 @@ impl Drive {
             pending: false,
             tracks: BTreeMap::new(),
             held: BTreeMap::new(),
+            arm: Arm::default(),
         }
     }
 
@@ -62,6 +90,7 @@ impl Drive {
         View {
             present: self.image_length >= paper::LABEL,
             geometry: self.geometry(self.in_force),
+            travelling: self.arm.way() != 0,
             pending: self.pending,
         }
     }
@@ -84,6 +113,21 @@ impl Drive {
     /// The geometry of a command that was admitted with parameters.
     fn admitted(&self) -> Geometry {
         self.geometry(self.in_force).expect("admitted with parameters")
+    }
+
+    /// A hard disk with a step option from 1 to 4 overlaps; on others the arm is there at once.
+    fn seek(&mut self, goal: u32) {
+        let [_, _, _, options, ..] = self.in_force.expect("admitted with parameters");
+        match (self.kind, options >> 4) {
+            (Kind::HardDisk, 1..=4) => self.arm.goal = goal,
+            _ => self.arm = Arm::at(goal),
+        }
+    }
+
+    /// The address was done.
+    fn done(&mut self, geometry: &Geometry, address: u32) {
+        let (track, _) = geometry.split(address);
+        self.arm = Arm::at(track / geometry.heads);
     }
 
     fn condition(&self, track: u32) -> Condition {
@@ -167,12 +211,25 @@ impl Machine {
         for drive in &mut self.drives {
             drive.in_force = drive.stored;
             drive.pending = false;
+            drive.arm = Arm::default();
         }
-        Reply { answer: Answer::default(), data: Vec::new() }
+        Reply::default()
+    }
+
+    pub fn tick(&mut self) -> Reply {
+        for drive in &mut self.drives {
+            drive.arm.step();
+        }
+        Reply::default()
+    }
+
+    /// Each drive's signed way.
+    pub fn report(&self) -> [i32; 4] {
+        self.drives.each_ref().map(|drive| drive.arm.way())
     }
 
     pub fn command(&mut self, block: &[u8], given: &[u8], area_length: usize) -> Reply {
-        let mut reply = Reply { answer: Answer::default(), data: Vec::new() };
+        let mut reply = Reply::default();
         let view = |drive: usize| self.drives[drive].view();
         let admitted = paper::admit(block, given.len(), area_length, view);
         let (drive, ended) = match admitted {
@@ -211,6 +268,7 @@ impl Machine {
 
     fn perform(&mut self, request: &Request, given: &[u8], reply: &mut Reply) -> Result<(), Fault> {
         match request.opcode {
+            0x01 => self.drives[request.drive].seek(0),
             0x03 => reply.data = self.senses[request.drive].to_vec(),
             0x04 => self.format_drive(request)?,
             0x05 => self.check_track(request)?,
@@ -218,6 +276,7 @@ impl Machine {
             0x07 => self.format_track(request, State::Bad)?,
             0x08 => self.read(request, reply)?,
             0x0A => self.write(request, given, reply)?,
+            0x0B => self.seek(request),
             0x0E => self.assign(request, given)?,
             0x0F => self.buffer.copy_from_slice(&given[..512]),
             0x10 => reply.data = self.buffer.to_vec(),
@@ -225,6 +284,13 @@ impl Machine {
             _ => {}
         }
         Ok(())
+    }
+
+    fn seek(&mut self, request: &Request) {
+        let drive = &mut self.drives[request.drive];
+        let geometry = drive.admitted();
+        let (track, _) = geometry.split(request.address);
+        drive.seek(track / geometry.heads);
     }
 
     fn initialize(&mut self, request: &Request, given: &[u8]) -> Result<(), Fault> {
@@ -236,6 +302,9 @@ impl Machine {
         }
         drive.in_force = Some(config);
         drive.pending = !is_stored;
+        if drive.pending {
+            drive.arm = Arm::at(0);
+        }
         Ok(())
     }
 
@@ -251,6 +320,7 @@ impl Machine {
         drive.forget_past(&geometry);
         drive.stored = drive.in_force;
         drive.pending = false;
+        drive.done(&geometry, geometry.addresses() - 1);
         Ok(())
     }
 
@@ -261,6 +331,7 @@ impl Machine {
         let (track, _) = geometry.split(request.address);
         paper::check_block_track(request, drive.condition(track))?;
         drive.set(&geometry, track, state, request.interleave, &fill);
+        drive.done(&geometry, request.address);
         Ok(())
     }
 
@@ -276,27 +347,32 @@ impl Machine {
             drive.set(&geometry, a, State::MovedTo(b), request.interleave, &fill);
         }
         drive.set(&geometry, b, State::TakenBy(a), request.interleave, &fill);
+        drive.done(&geometry, request.address);
         Ok(())
     }
 
-    fn check_track(&self, request: &Request) -> Result<(), Fault> {
-        let drive = &self.drives[request.drive];
-        let (track, _) = drive.admitted().split(request.address);
+    fn check_track(&mut self, request: &Request) -> Result<(), Fault> {
+        let drive = &mut self.drives[request.drive];
+        let geometry = drive.admitted();
+        let (track, _) = geometry.split(request.address);
         let interleave = drive.usable(track).map_err(|code| request.fault(code))?;
         if interleave != request.interleave {
             return Err(request.fault(0x1A));
         }
+        drive.done(&geometry, request.address);
         Ok(())
     }
 
     fn read(&mut self, request: &Request, reply: &mut Reply) -> Result<(), Fault> {
-        let drive = &self.drives[request.drive];
+        let drive = &mut self.drives[request.drive];
         let geometry = drive.admitted();
         for k in 0..request.count {
-            let bytes = drive.sector(&geometry, request.place().further(k))?;
+            let place = request.place().further(k);
+            let bytes = drive.sector(&geometry, place)?;
             reply.data.extend_from_slice(bytes);
             self.buffer[..bytes.len()].copy_from_slice(bytes);
             reply.answer.sectors += 1;
+            drive.done(&geometry, place.address);
         }
         Ok(())
     }
@@ -305,9 +381,11 @@ impl Machine {
         let drive = &mut self.drives[request.drive];
         let geometry = drive.admitted();
         for (k, bytes) in (0..request.count).zip(given.chunks_exact(geometry.data)) {
-            drive.hold(&geometry, request.place().further(k), bytes)?;
+            let place = request.place().further(k);
+            drive.hold(&geometry, place, bytes)?;
             self.buffer[..bytes.len()].copy_from_slice(bytes);
             reply.answer.sectors += 1;
+            drive.done(&geometry, place.address);
         }
         Ok(())
     }
@@ -316,18 +394,40 @@ impl Machine {
     /// destination sectors as they can. A fault among these comes before the source's, since each is
     /// searched for as soon as its bytes are read.
     fn copy(&mut self, copy: &CopyBlocks, reply: &mut Reply) -> Result<(), Fault> {
-        let size = self.drives[copy.destination.drive].admitted().data;
+        let [from, to] =
+            [copy.source, copy.destination].map(|place| self.drives[place.drive].admitted());
         let (mut bytes, fault) = self.readable(copy);
-        let rest = bytes.len() % size;
+        let (readable, rest) = (bytes.len() / from.data, bytes.len() % to.data);
         match fault {
             Some(_) => bytes.truncate(bytes.len() - rest),
-            None => bytes.resize(bytes.len().next_multiple_of(size), 0),
+            None => bytes.resize(bytes.len().next_multiple_of(to.data), 0),
         }
-        let last = self.hold_all(copy.destination, &bytes, reply)?;
+        let held = self.hold_all(copy.destination, &bytes, reply);
+        let written = usize::from(reply.answer.sectors);
+        let read = match held {
+            Ok(_) => readable,
+            // Up to the last byte of the sector that was not found, or of the source.
+            Err(_) => readable.min(((written + 1) * to.data).div_ceil(from.data)),
+        };
+        self.leave_arms(copy, read as u32, written as u32);
+        let last = held?;
         match fault {
             Some(fault) => Err(fault),
             None if rest > 0 => Err(last.fault(0x23)),
             None => Ok(()),
+        }
+    }
+
+    /// Each arm is where its side got to. Within a drive they take turns, a read and then its write, so
+    /// that a sector read and not written is the last.
+    fn leave_arms(&mut self, copy: &CopyBlocks, read: u32, written: u32) {
+        let mut sides = [(copy.source, read), (copy.destination, written)];
+        if read > written {
+            sides.reverse();
+        }
+        for (place, count) in sides.into_iter().filter(|(_, count)| *count > 0) {
+            let drive = &mut self.drives[place.drive];
+            drive.done(&drive.admitted(), place.further(count - 1).address);
         }
     }
 

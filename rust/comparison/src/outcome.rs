@@ -38,24 +38,33 @@ impl Setting {
 pub fn view(drive: usize, record: &Drive, length: usize) -> View {
     let geometry = Geometry::read(Kind::of(drive), &record.config, length);
     let geometry = geometry.filter(|_| record.known);
-    View { present: length >= paper::LABEL, geometry, pending: record.pending }
+    View {
+        present: length >= paper::LABEL,
+        geometry,
+        travelling: record.way != 0,
+        pending: record.pending,
+    }
 }
 
-/// What a call answers, and what it leaves of its setting.
+/// What a call answers, and what it leaves of its setting; the ways that a report then gives.
 #[derive(Clone, Debug, PartialEq, Eq)]
 pub struct Outcome {
     pub answer: Answer,
     pub setting: Setting,
+    pub ways: [i32; 4],
 }
 
 impl Outcome {
     /// The outcome that the document fixes.
     pub fn of(before: Setting, call: &Call) -> Outcome {
-        let mut outcome = Outcome { answer: Answer::default(), setting: before };
+        let mut outcome = Outcome { answer: Answer::default(), setting: before, ways: [0; 4] };
         match call {
             Call::Reset => outcome.reset(),
             Call::Execute { block, given } => outcome.execute(block, given),
+            Call::Tick => outcome.tick(),
+            Call::Report => {}
         }
+        outcome.ways = outcome.setting.controller.drives.map(|record| record.way);
         outcome
     }
 
@@ -64,12 +73,13 @@ impl Outcome {
         let mut setting = before;
         let answer = apply(engine, call, &mut setting.area, &mut setting.images);
         setting.controller = engine.record();
-        Outcome { answer, setting }
+        Outcome { answer, setting, ways: engine.report() }
     }
 
     /// Ok if an engine's outcome is the same, else the first difference.
     pub fn compare(&self, found: &Outcome) -> Result<(), String> {
         same("answer", &self.answer, &found.answer)?;
+        same_ways(self.ways, found.ways)?;
         let (expected, found) = (&self.setting, &found.setting);
         same_bytes("buffer", &expected.controller.buffer, &found.controller.buffer)?;
         for drive in 0..4 {
@@ -92,6 +102,27 @@ impl Outcome {
                 None => Drive::default(),
             };
         }
+    }
+
+    fn tick(&mut self) {
+        for record in &mut self.setting.controller.drives {
+            record.way -= record.way.signum();
+        }
+    }
+
+    /// The arm is at the cylinder of an address.
+    fn arrive(&mut self, place: Place, geometry: &Geometry) {
+        let record = &mut self.setting.controller.drives[place.drive];
+        (record.target, record.way) = (geometry.cylinder(place.address) as u16, 0);
+    }
+
+    /// Seek and Recalibrate: the arm, which is at rest, sets out for a cylinder or is there at once.
+    fn go(&mut self, drive: usize, cylinder: u32) {
+        let record = &mut self.setting.controller.drives[drive];
+        if paper::overlaps(Kind::of(drive), &record.config) {
+            record.way = cylinder as i32 - i32::from(record.target);
+        }
+        record.target = cylinder as u16;
     }
 
     fn execute(&mut self, block: &[u8], given: &[u8]) {
@@ -140,15 +171,23 @@ impl Outcome {
     fn perform_on_drive(&mut self, request: &Request, given: &[u8]) -> Result<(), Fault> {
         let geometry = self.setting.admitted(request.drive);
         match request.opcode {
-            0x04 => self.format_drive(request, &geometry),
-            0x05 => self.check_track(request, &geometry),
-            0x06 => self.format_track(request, &geometry, 0),
-            0x07 => self.format_track(request, &geometry, 1),
-            0x08 => self.read(request, &geometry),
-            0x0A => self.write(request, &geometry, given),
-            0x0E => self.assign(request, &geometry, given),
-            _ => Ok(()),
+            0x01 => self.go(request.drive, 0),
+            0x04 => self.format_drive(request, &geometry)?,
+            0x05 => self.check_track(request, &geometry)?,
+            0x06 => self.format_track(request, &geometry, 0)?,
+            0x07 => self.format_track(request, &geometry, 1)?,
+            0x08 => self.read(request, &geometry)?,
+            0x0A => self.write(request, &geometry, given)?,
+            0x0B => self.go(request.drive, geometry.cylinder(request.address)),
+            0x0E => self.assign(request, &geometry, given)?,
+            _ => {}
         }
+        match request.opcode {
+            0x04 => self.arrive(request.place().last(&geometry), &geometry),
+            0x05 | 0x06 | 0x07 | 0x0E => self.arrive(request.place(), &geometry),
+            _ => {} // transfers arrive sector by sector
+        }
+        Ok(())
     }
 
     fn image(&self, request: &Request) -> &[u8] {
@@ -171,6 +210,9 @@ impl Outcome {
         }
         let record = &mut self.setting.controller.drives[request.drive];
         (record.config, record.known, record.pending) = (config, true, !is_label);
+        if record.pending {
+            record.target = 0;
+        }
         Ok(())
     }
 
@@ -290,12 +332,14 @@ impl Outcome {
             .map_err(|code| place.fault(code))
     }
 
-    fn read_sector(&self, place: Place, geometry: &Geometry) -> Result<Vec<u8>, Fault> {
+    /// Reads a sector, and the arm is there.
+    fn read_sector(&mut self, place: Place, geometry: &Geometry) -> Result<Vec<u8>, Fault> {
         let slot = self.found_slot(place, geometry)?;
+        self.arrive(place, geometry);
         Ok(self.setting.images[place.drive][slot].to_vec())
     }
 
-    /// Writes a sector, leaves it in the buffer and counts it.
+    /// Writes a sector, leaves it in the buffer and counts it; the arm is there.
     fn write_sector(
         &mut self,
         place: Place,
@@ -304,6 +348,7 @@ impl Outcome {
     ) -> Result<(), Fault> {
         let slot = self.found_slot(place, geometry)?;
         self.setting.images[place.drive][slot].copy_from_slice(bytes);
+        self.arrive(place, geometry);
         self.leave_in_buffer(bytes);
         self.answer.sectors += 1;
         Ok(())
@@ -355,6 +400,15 @@ fn same<T: PartialEq + std::fmt::Debug>(name: &str, expected: &T, found: &T) -> 
         Ok(())
     } else {
         Err(format!("{name}: expected {expected:02X?}, found {found:02X?}"))
+    }
+}
+
+/// Ok if a report gives the ways that are expected.
+pub fn same_ways(expected: [i32; 4], found: [i32; 4]) -> Result<(), String> {
+    if expected == found {
+        Ok(())
+    } else {
+        Err(format!("ways: expected {expected:?}, found {found:?}"))
     }
 }
 

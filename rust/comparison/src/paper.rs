@@ -125,6 +125,11 @@ impl Geometry {
         LABEL + self.addresses() as usize * self.slot_size()
     }
 
+    /// The cylinder of an address, by its own track.
+    pub fn cylinder(&self, address: u32) -> u32 {
+        address / self.sectors / self.heads
+    }
+
     /// Track and sector of an address.
     pub fn split(&self, address: u32) -> (u32, u32) {
         (address / self.sectors, address % self.sectors)
@@ -157,6 +162,12 @@ impl Geometry {
             (partner % 256) as u8,
         ]
     }
+}
+
+/// Whether Seek and Recalibrate return at the start of the movement (request E9): on hard disks with
+/// step option 1 to 4.
+pub fn overlaps(kind: Kind, config: &Config) -> bool {
+    kind == Kind::HardDisk && (1..=4).contains(&(config[3] / 16))
 }
 
 /// Configuration bytes 7-8: on a hard disk, the cylinder where precompensation begins.
@@ -289,6 +300,11 @@ impl Place {
         Place { address: self.address + by, ..self }
     }
 
+    /// The last place of its drive.
+    pub fn last(self, geometry: &Geometry) -> Place {
+        Place { address: geometry.addresses() - 1, ..self }
+    }
+
     pub fn fault(self, code: u8) -> Fault {
         Fault { code, place: self }
     }
@@ -322,6 +338,7 @@ pub fn good_sense(drive: usize) -> [u8; 4] {
 pub struct View {
     pub present: bool,
     pub geometry: Option<Geometry>,
+    pub travelling: bool,
     pub pending: bool,
 }
 
@@ -544,6 +561,9 @@ fn check_side(
         return Err(place.fault(0x04));
     }
     let geometry = view.geometry.ok_or(place.fault(0x0A))?;
+    if view.travelling {
+        return Err(place.fault(0x08));
+    }
     let last = place.address + sectors(&geometry) - 1;
     if last >= geometry.addresses() {
         return Err(place.fault(0x21));
@@ -583,11 +603,14 @@ fn first_code(block: &[u8], request: &Request, view: &View) -> Option<u8> {
         return Some(0x04);
     }
     if opcode == 0x11 {
-        return None;
+        return view.travelling.then_some(0x08);
     }
     let Some(geometry) = view.geometry else {
         return Some(0x0A);
     };
+    if view.travelling {
+        return Some(0x08);
+    }
     let with_interleave = matches!(opcode, 0x04..=0x07 | 0x0E);
     if with_interleave && (request.interleave < 1 || request.interleave > geometry.sectors - 1) {
         return Some(0x22);

@@ -69,6 +69,8 @@ struct Kind {
     fills_from_buffer: bool,
     /// Whether the drive has Check Track and Assign Alternate.
     has_alternates: bool,
+    /// Whether a step option, which is not 0, lets a Seek return before the arm is there.
+    overlaps_seeks: bool,
 }
 
 /// A value of configuration byte 4, with the sectors of a track and the data bytes of a sector.
@@ -90,6 +92,7 @@ static HARD_DISK: Kind = Kind {
     fill: [0x6C; BUFFER],
     fills_from_buffer: true,
     has_alternates: true,
+    overlaps_seeks: true,
 };
 
 static FLOPPY: Kind = Kind {
@@ -104,6 +107,7 @@ static FLOPPY: Kind = Kind {
     fill: [0xE5; BUFFER],
     fills_from_buffer: false,
     has_alternates: false,
+    overlaps_seeks: false,
 };
 
 /// The kind of each drive.
@@ -138,6 +142,10 @@ pub struct Drive {
     /// Whether `config` is in force; where not, `config` and `pending` mean nothing.
     pub known: bool,
     pub pending: bool,
+    /// The arm's cylinder, or the one that it travels to.
+    pub target: u16,
+    /// How far that still is: positive inward.
+    pub way: i32,
 }
 
 /// The controller record. Any record may be used.
@@ -339,6 +347,11 @@ impl Geometry {
 
     fn track(self, address: usize) -> usize {
         address / self.sectors
+    }
+
+    /// The cylinder of an address, wherever its track was moved to.
+    fn cylinder(self, address: usize) -> u16 {
+        (self.track(address) / self.heads) as u16
     }
 
     fn slot_size(self) -> usize {
@@ -717,6 +730,26 @@ impl Drive {
     fn geometry(&self, kind: &Kind, image_length: usize) -> Option<Geometry> {
         self.known.then(|| Geometry::of(kind, &self.config, image_length))?
     }
+
+    fn is_travelling(&self) -> bool {
+        self.way != 0
+    }
+
+    /// Sends an arm that is at rest to a cylinder.
+    fn seek(&mut self, kind: &Kind, cylinder: u16) {
+        let from = std::mem::replace(&mut self.target, cylinder);
+        if kind.overlaps_seeks && self.config[3] >> 4 != 0 {
+            self.way = i32::from(cylinder) - i32::from(from);
+        }
+    }
+
+    fn tick(&mut self) {
+        match self.way {
+            0 => {}
+            1.. => self.way -= 1,
+            _ => self.way += 1,
+        }
+    }
 }
 
 fn drive_bits(drive: usize) -> u8 {
@@ -736,6 +769,14 @@ impl Controller {
     pub fn reset(&mut self, images: [&[u8]; 4]) -> Answer {
         *self = Controller::fresh(images);
         Answer::default()
+    }
+
+    pub fn tick(&mut self) {
+        self.drives.iter_mut().for_each(Drive::tick);
+    }
+
+    pub fn report(&self) -> [i32; 4] {
+        self.drives.map(|drive| drive.way)
     }
 
     pub fn execute(
@@ -827,23 +868,46 @@ impl Controller {
     ) -> Run {
         let geometry = self.check_drive(block, image.len())?;
         match block.opcode {
-            opcode::FORMAT_DRIVE => self.format_drive(block, geometry, image),
-            opcode::CHECK_TRACK => check_track(block, geometry, image),
-            opcode::FORMAT_TRACK => self.format_track(block, geometry, image, flag::SOUND),
-            opcode::FORMAT_BAD_TRACK => self.format_track(block, geometry, image, flag::BAD),
-            opcode::READ => self.read(block, geometry, image, area, answer),
-            opcode::WRITE => self.write(block, geometry, image, given, answer),
-            opcode::ASSIGN_ALTERNATE => self.assign(block, geometry, image, given),
-            _ => Ok(()), // Test Ready, Recalibrate, Seek: checks only
+            opcode::FORMAT_DRIVE => self.format_drive(block, geometry, image)?,
+            opcode::CHECK_TRACK => check_track(block, geometry, image)?,
+            opcode::FORMAT_TRACK => self.format_track(block, geometry, image, flag::SOUND)?,
+            opcode::FORMAT_BAD_TRACK => self.format_track(block, geometry, image, flag::BAD)?,
+            opcode::READ => self.read(block, geometry, image, area, answer)?,
+            opcode::WRITE => self.write(block, geometry, image, given, answer)?,
+            opcode::ASSIGN_ALTERNATE => self.assign(block, geometry, image, given)?,
+            _ => {} // Test Ready, Recalibrate, Seek: checks only
+        }
+        self.leave_arm(block, geometry);
+        Ok(())
+    }
+
+    /// The arm after a command that ended well. Where a transfer ends it is after its last sector, also if
+    /// it fails.
+    fn leave_arm(&mut self, block: &Block, geometry: Geometry) {
+        use opcode::*;
+        let drive = &mut self.drives[block.drive];
+        match block.opcode {
+            FORMAT_DRIVE => drive.target = geometry.cylinder(geometry.addresses() - 1),
+            CHECK_TRACK | FORMAT_TRACK | FORMAT_BAD_TRACK | ASSIGN_ALTERNATE => {
+                drive.target = geometry.cylinder(block.address);
+            }
+            SEEK => drive.seek(block.kind(), geometry.cylinder(block.address)),
+            RECALIBRATE => drive.seek(block.kind(), 0),
+            _ => {}
         }
     }
 
-    /// The parameters in force: 04h and 0Ah.
+    /// The parameters in force of a drive whose arm is at rest: 04h, 0Ah and 08h.
     fn parameters(&self, drive: usize, image_length: usize) -> Result<Geometry, Stop> {
         if image_length < LABEL {
             return Err(fault(0x04));
         }
-        self.drives[drive].geometry(KINDS[drive], image_length).ok_or(fault(0x0A))
+        let record = &self.drives[drive];
+        let geometry = record.geometry(KINDS[drive], image_length).ok_or(fault(0x0A))?;
+        if record.is_travelling() {
+            return Err(fault(0x08));
+        }
+        Ok(geometry)
     }
 
     /// The checks from 04h to 16h of the commands that need parameters.
@@ -914,12 +978,35 @@ impl Controller {
             self.buffer[..to.data].copy_from_slice(last);
         }
         answer.sectors = copying.written as u16;
+        let [read, written] = [&copying.from, &copying.to].map(Walk::address);
+        self.leave_arms(block, (from, read), (to, written));
         ended
+    }
+
+    /// Both arms after a Copy that came to these addresses. On one drive each sector is read and then
+    /// written, so that the write was the later unless more were read.
+    fn leave_arms(
+        &mut self,
+        block: &CopyBlock,
+        (from, read): (Geometry, usize),
+        (to, written): (Geometry, usize),
+    ) {
+        let (source, destination) = (&block.source, &block.destination);
+        let more_read = read - source.address > written - destination.address;
+        if written > destination.address {
+            self.drives[destination.drive].target = to.cylinder(written - 1);
+        }
+        if read > source.address && (source.drive != destination.drive || more_read) {
+            self.drives[source.drive].target = from.cylinder(read - 1);
+        }
     }
 
     fn initialize(&mut self, block: &Block, given: &[u8], image: &[u8]) -> Run {
         if image.len() < LABEL {
             return Err(fault(0x04));
+        }
+        if self.drives[block.drive].is_travelling() {
+            return Err(fault(0x08));
         }
         let config = take(given)?;
         let pending = valid_label(block.kind(), image) != Some(config);
@@ -928,6 +1015,9 @@ impl Controller {
         }
         let drive = &mut self.drives[block.drive];
         (drive.config, drive.known, drive.pending) = (*config, true, pending);
+        if pending {
+            drive.target = 0;
+        }
         Ok(())
     }
 
@@ -1015,7 +1105,7 @@ impl Controller {
         let moved = transfer(geometry, image, block.address, count, |done, sector| {
             area[done * data..][..data].copy_from_slice(sector);
         });
-        let ended = self.after_transfer(block, data, area, moved, answer);
+        let ended = self.after_transfer(block, geometry, area, moved, answer);
         answer.bytes = u32::from(answer.sectors) * data as u32;
         ended
     }
@@ -1033,21 +1123,23 @@ impl Controller {
         let moved = transfer(geometry, image, block.address, count, |done, sector| {
             sector.copy_from_slice(&given[done * data..][..data]);
         });
-        self.after_transfer(block, data, given, moved, answer)
+        self.after_transfer(block, geometry, given, moved, answer)
     }
 
-    /// Counts the sectors done and leaves the last of them in the buffer.
+    /// Counts the sectors done, leaves the last of them in the buffer, and the arm there.
     fn after_transfer(
         &mut self,
         block: &Block,
-        data: usize,
+        geometry: Geometry,
         bytes: &[u8],
         moved: Result<(), (usize, u8)>,
         answer: &mut Answer,
     ) -> Run {
+        let data = geometry.data;
         let done = moved.map_or_else(|(done, _)| done, |()| block.count());
         if let Some(last) = bytes[..done * data].rchunks_exact(data).next() {
             self.buffer[..data].copy_from_slice(last);
+            self.drives[block.drive].target = geometry.cylinder(block.address + done - 1);
         }
         answer.sectors = done as u16;
         moved.map_err(|(done, code)| fault_at(code, block.address + done))

@@ -13,6 +13,8 @@ impl Proved {
             config: d.config,
             known: d.known,
             pending: d.pending,
+            target: d.target,
+            way: d.way,
         };
         Proved(lanthewg::Controller {
             buffer: record.buffer,
@@ -49,12 +51,24 @@ impl Engine for Proved {
         answer(self.0.execute(block, given, area, images))
     }
 
+    #[inline]
+    fn tick(&mut self) {
+        self.0.tick();
+    }
+
+    #[inline]
+    fn report(&self) -> [i32; 4] {
+        self.0.report()
+    }
+
     fn record(&self) -> plain::Controller {
         let drive = |d: &lanthewg::Drive| plain::Drive {
             sense: d.sense,
             config: d.config,
             known: d.known,
             pending: d.pending,
+            target: d.target,
+            way: d.way,
         };
         plain::Controller {
             buffer: self.0.buffer,

@@ -12,7 +12,7 @@ use crate::tally::OPCODES;
 /// Commands on a drive with its parameters in force, by weight.
 const ON_FORMATTED: [(u32, u8); 15] = [
     (2, 0x00),
-    (1, 0x01),
+    (3, 0x01),
     (8, 0x03),
     (6, 0x04),
     (12, 0x05),
@@ -20,7 +20,7 @@ const ON_FORMATTED: [(u32, u8); 15] = [
     (6, 0x07),
     (19, 0x08),
     (19, 0x0A),
-    (2, 0x0B),
+    (8, 0x0B),
     (13, 0x0E),
     (3, 0x0F),
     (3, 0x10),
@@ -38,6 +38,9 @@ const ON_UNKNOWN: [(u32, u8); 5] = [(70, 0x11), (4, 0x00), (8, 0x03), (4, 0x0F),
 /// Control bytes of an assignment, by weight: often a keep, seldom with bit 5 besides, which is refused.
 const ASSIGN_CONTROLS: [(u32, u8); 8] =
     [(5, 0), (4, 0x20), (1, 0xA0), (1, 0x80), (8, 0x10), (2, 0x90), (1, 0x30), (1, 0xB0)];
+
+/// As many ticks bring any arm to its cylinder.
+const MOST_TICKS: u32 = 1_023;
 
 /// SplitMix64.
 #[derive(Clone)]
@@ -113,12 +116,17 @@ pub enum Scale {
     Small,
     /// So many that cylinders, partners and addresses need their high bytes.
     Wide,
+    /// Hard disks with as many cylinders and one head: arms have a long way to travel.
+    Long,
 }
 
 impl Scale {
-    /// The scale of each drive where this one is asked for: one drive of each kind stays small.
+    /// The scale of each drive where this one is asked for: if wide, one drive of each kind stays small.
     fn of_drives(self) -> [Scale; 4] {
-        [self, Scale::Small, self, Scale::Small]
+        match self {
+            Scale::Long => [self, self, Scale::Small, Scale::Small],
+            Scale::Small | Scale::Wide => [self, Scale::Small, self, Scale::Small],
+        }
     }
 }
 
@@ -159,6 +167,7 @@ fn any_config(random: &mut Random, scale: Scale, kind: Kind) -> Config {
             random.weighted(&[(5, 1), (8, 2), (6, 3), (2, 4), (1, 7)]).min(most_heads),
         ),
         Scale::Wide => (most_cylinders.min(312) - random.below(20), most_heads),
+        Scale::Long => (most_cylinders.min(312) - random.below(20), 1),
     };
     let [high, low] = (cylinders as u16).to_be_bytes();
     let (size, _, _) = random.pick(rules.sizes);
@@ -240,6 +249,32 @@ struct Belief {
     /// moved.
     cut: Vec<(u32, u32)>,
     interleaves: BTreeMap<u32, u8>,
+    /// The arm's cylinder, or the one that it travels to, and its way there.
+    target: u32,
+    way: i32,
+}
+
+impl Belief {
+    fn is_travelling(&self) -> bool {
+        self.way != 0
+    }
+
+    /// Whether a Seek shows where the arm is.
+    fn overlaps(&self, kind: Kind) -> bool {
+        self.in_force.is_some_and(|config| paper::overlaps(kind, &config))
+    }
+
+    /// A Seek or Recalibrate.
+    fn seek(&mut self, kind: Kind, cylinder: u32) {
+        if self.overlaps(kind) {
+            self.way = cylinder as i32 - self.target as i32;
+        }
+        self.target = cylinder;
+    }
+
+    fn stop(&mut self) {
+        (self.target, self.way) = (0, 0);
+    }
 }
 
 /// Makes calls, one after the other.
@@ -251,6 +286,10 @@ pub struct Caller {
     /// How often each drive is named.
     weights: [u32; 4],
     beliefs: [Belief; 4],
+    /// Ticks that come next.
+    ticks: u32,
+    /// The drive of a Seek that comes next, if no other call comes before.
+    seek_next: Option<usize>,
 }
 
 /// The parts of a command before they become bytes.
@@ -266,6 +305,14 @@ struct Draft {
     handed_over: usize,
 }
 
+impl Draft {
+    /// The drives that it names.
+    fn drives(&self) -> impl Iterator<Item = usize> {
+        let destination = self.destination.map(|(place, _)| place.drive);
+        std::iter::once(self.drive).chain(destination)
+    }
+}
+
 impl Caller {
     /// For a list on zero images of these lengths.
     pub fn new(random: Random, scale: Scale, lengths: [usize; 4]) -> Caller {
@@ -279,7 +326,8 @@ impl Caller {
         beliefs: [Belief; 4],
     ) -> Caller {
         let weights = lengths.map(|length| weight(&mut random, length));
-        Caller { random, scales: scale.of_drives(), lengths, weights, beliefs }
+        let scales = scale.of_drives();
+        Caller { random, scales, lengths, weights, beliefs, ticks: 0, seek_next: None }
     }
 
     /// Lets a drive be named as often as this weight says; the others' are 8 to 120 each.
@@ -295,28 +343,90 @@ impl Caller {
         self.reset();
     }
 
-    /// The next call.
-    pub fn step(&mut self) -> Step {
-        if self.random.chance(2) {
-            return self.reset();
-        }
-        self.command()
+    /// A list of so many calls, ticks not counted.
+    pub fn list(mut self, calls: u32) -> impl Iterator<Item = Step> {
+        let mut left = calls;
+        std::iter::from_fn(move || {
+            let step = (left > 0).then(|| self.step())?;
+            left -= u32::from(step.call != Call::Tick);
+            Some(step)
+        })
     }
 
-    /// The next call, which is no Reset.
+    /// The next call.
+    pub fn step(&mut self) -> Step {
+        if self.is_time_for_tick() {
+            return self.tick();
+        }
+        match self.random.below(100) {
+            0..=1 => self.reset(),
+            2..=3 => Step::of(Call::Report),
+            _ => self.command(),
+        }
+    }
+
+    /// Whether a tick comes next; how many follow each other is drawn before the first.
+    pub fn is_time_for_tick(&mut self) -> bool {
+        let travelling = self.beliefs.iter().any(Belief::is_travelling);
+        if self.ticks == 0 && self.random.chance(if travelling { 30 } else { 2 }) {
+            self.ticks = self.number_of_ticks();
+        }
+        self.ticks > 0
+    }
+
+    /// One, or as many as one of the arms needs to arrive, or one less.
+    fn number_of_ticks(&mut self) -> u32 {
+        let travelling = self.beliefs.iter().filter(|belief| belief.is_travelling());
+        let ways: Vec<u32> = travelling.map(|belief| belief.way.unsigned_abs()).collect();
+        let way = if ways.is_empty() { 1 } else { self.random.pick(&ways) };
+        self.random.weighted(&[(5, 1), (4, way), (2, way - 1)]).clamp(1, MOST_TICKS)
+    }
+
+    pub fn tick(&mut self) -> Step {
+        self.ticks = self.ticks.saturating_sub(1);
+        for belief in &mut self.beliefs {
+            belief.way -= belief.way.signum();
+        }
+        Step::of(Call::Tick)
+    }
+
+    /// The next call, which is a command.
     pub fn command(&mut self) -> Step {
-        let drive = self.drive();
         let before = self.beliefs.clone();
-        let draft = self.sensible(drive);
-        let mut step = self.step_of(draft);
-        if self.random.chance(8) {
+        let draft = match self.seek_next.take() {
+            Some(drive) => {
+                let opcode = self.random.weighted(&[(4, 0x0B), (1, 0x01)]);
+                self.sensible(drive, opcode)
+            }
+            None => {
+                let drive = self.drive();
+                let opcode = self.opcode(drive);
+                self.sensible(drive, opcode)
+            }
+        };
+        let spoilt = self.random.chance(8);
+        if spoilt || draft.drives().any(|drive| before[drive].is_travelling()) {
             self.beliefs = before;
+        } else {
+            self.seek_next = self.worth_seeking(&draft);
+        }
+        let mut step = self.step_of(draft);
+        if spoilt {
             self.spoil(&mut step);
         }
         step
     }
 
+    /// A travelling drive refuses nearly everything, so that mostly another one is named.
     fn drive(&mut self) -> usize {
+        let drive = self.any_drive();
+        if self.beliefs[drive].is_travelling() && self.random.chance(60) {
+            return self.any_drive();
+        }
+        drive
+    }
+
+    fn any_drive(&mut self) -> usize {
         let [first, second, third, fourth] = self.weights;
         self.random.weighted(&[(first, 0), (second, 1), (third, 2), (fourth, 3)])
     }
@@ -325,8 +435,27 @@ impl Caller {
         for belief in &mut self.beliefs {
             belief.in_force = belief.stored;
             belief.pending = false;
+            belief.stop();
         }
-        Step { call: Call::Reset, area: Vec::new() }
+        self.ticks = 0;
+        Step::of(Call::Reset)
+    }
+
+    /// After a Seek that sets out the other hard disk, so that both travel. After a command that may have
+    /// moved an arm, or seems to leave it, its drive: a Seek shows where the arm is.
+    fn worth_seeking(&mut self, draft: &Draft) -> Option<usize> {
+        let (chance, drives): (u32, Vec<usize>) = match draft.opcode {
+            0x00 | 0x03 | 0x0F | 0x10 => return None,
+            0x01 | 0x0B if !self.beliefs[draft.drive].is_travelling() => return None,
+            0x01 | 0x0B => (60, vec![draft.drive ^ 1]),
+            _ => (20, draft.drives().collect()),
+        };
+        let drive = self.random.pick(&drives);
+        let belief = &self.beliefs[drive];
+        let shows = !belief.pending
+            && belief.overlaps(Kind::of(drive))
+            && self.believed(drive).is_some_and(|geometry| geometry.cylinders > 1);
+        (shows && self.random.chance(chance)).then_some(drive)
     }
 
     fn believed(&self, drive: usize) -> Option<Geometry> {
@@ -363,8 +492,7 @@ impl Caller {
         opcode
     }
 
-    fn sensible(&mut self, drive: usize) -> Draft {
-        let opcode = self.opcode(drive);
+    fn sensible(&mut self, drive: usize, opcode: u8) -> Draft {
         let geometry = self.believed(drive).unwrap_or_else(|| one_track(Kind::of(drive)));
         let mut draft = self.empty_draft(opcode, drive);
         match opcode {
@@ -380,7 +508,7 @@ impl Caller {
                 self.transfer(&mut draft, &geometry);
                 draft.given = self.random.bytes(sectors(draft.fifth) * geometry.data);
             }
-            0x0B => draft.address = self.address(drive, &geometry),
+            0x0B => draft.address = self.sought(drive, &geometry),
             0x0E => self.assign(&mut draft, &geometry),
             0x0F => draft.given = self.random.bytes(512),
             0x10 => draft.handed_over = 512,
@@ -388,7 +516,27 @@ impl Caller {
             COPY => self.copy(&mut draft, &geometry),
             _ => {}
         }
+        self.move_arm(&draft, &geometry);
         draft
+    }
+
+    /// Where the arm is if the command goes well.
+    fn move_arm(&mut self, draft: &Draft, geometry: &Geometry) {
+        let (kind, belief) = (Kind::of(draft.drive), &mut self.beliefs[draft.drive]);
+        let last = match draft.opcode {
+            0x01 => return belief.seek(kind, 0),
+            0x11 if belief.pending => return belief.stop(),
+            0x04 => geometry.addresses() - 1,
+            0x05..=0x07 | 0x0B | 0x0E => draft.address,
+            0x08 | 0x0A | COPY => draft.address + sectors(draft.fifth) as u32 - 1,
+            _ => return,
+        };
+        let cylinder = geometry.cylinder(last);
+        match draft.opcode {
+            _ if last >= geometry.addresses() => {}
+            0x0B => belief.seek(kind, cylinder),
+            _ => belief.target = cylinder,
+        }
     }
 
     /// A command with the fields that it does not use at 0 or at random, and good control bits.
@@ -433,6 +581,25 @@ impl Caller {
             95..=97 => geometry.addresses() + self.random.below(3),
             _ => self.random.below(1 << 21),
         }
+    }
+
+    /// The address of a Seek, mostly on another cylinder, often the farther end of the disk.
+    fn sought(&mut self, drive: usize, geometry: &Geometry) -> u32 {
+        let Geometry { cylinders, heads, sectors, .. } = *geometry;
+        if cylinders == 1 || self.random.chance(30) {
+            return self.address(drive, geometry);
+        }
+        let target = self.beliefs[drive].target;
+        let cylinder = if self.random.chance(35) {
+            if 2 * target < cylinders {
+                cylinders - 1
+            } else {
+                0
+            }
+        } else {
+            (target + 1 + self.random.below(cylinders - 1)) % cylinders
+        };
+        cylinder * heads * sectors + self.random.below(heads * sectors)
     }
 
     fn interleave(&mut self, geometry: &Geometry) -> u8 {
@@ -802,6 +969,9 @@ pub fn damaged(mut random: Random, scale: Scale) -> Damaged {
         damaged_image(&mut random, scales[drive], Kind::of(drive), &mut beliefs[drive])
     });
     let controller = record(&mut random, beliefs.each_ref().map(|belief| belief.in_force));
+    for (belief, drive) in beliefs.iter_mut().zip(&controller.drives) {
+        (belief.target, belief.way) = (drive.target.into(), drive.way);
+    }
     let lengths = images.each_ref().map(Vec::len);
     Damaged { controller, images, caller: Caller::believing(random, scale, lengths, beliefs) }
 }
@@ -823,7 +993,21 @@ fn drive_record(random: &mut Random, config: Option<Config>) -> Drive {
         random.fill(&mut any);
     }
     let config = config.filter(|_| random.chance(95)).unwrap_or(any);
-    Drive { sense, config, known: random.chance(96), pending: random.chance(8) }
+    let (known, pending) = (random.chance(96), random.chance(8));
+    let target = random.number() as u16;
+    let target = random.pick(&[target % 5, target % 5, target % 5, target % 330, target]);
+    Drive { sense, config, known, pending, target, way: any_way(random) }
+}
+
+/// Mostly at rest; else near, or any way.
+fn any_way(random: &mut Random) -> i32 {
+    let any = random.number() as i32;
+    match random.below(100) {
+        0..=84 => 0,
+        85..=96 => any % 4,
+        97 => random.pick(&[i32::MIN, i32::MAX]),
+        _ => any,
+    }
 }
 
 /// An image of any length and bytes; mostly formatted by somebody, then damaged. Seldom it is one of
@@ -855,8 +1039,8 @@ fn damaged_image(random: &mut Random, scale: Scale, kind: Kind, belief: &mut Bel
     match random.below(40) {
         0 => image.truncate(image.len() - 1),
         1 => image.truncate(random.size_below(100)),
-        2 => image.truncate(random.size_below(LABEL)),
-        3..=13 => image.extend(random.bytes(30)),
+        2..=3 => image.truncate(random.size_below(LABEL)),
+        4..=14 => image.extend(random.bytes(30)),
         _ => {}
     }
     image

@@ -1,5 +1,6 @@
 //! One drive's work and another's (request E6): two lists that agree for a drive give it the same
-//! answers and leave it the same entry and image, whatever else they hold.
+//! answers and ways, and leave it the same entry and image, whatever else they hold. They agree in
+//! their ticks too, and in where these fall among the Resets and the drive's commands (request E9).
 //!
 //! Which blocks name a drive and which are excluded is written here from the paper, bit by bit, and
 //! shares nothing with an engine.
@@ -85,12 +86,14 @@ pub enum Rule {
     Turns,
     /// One kind, anywhere: then the lists may show each other.
     LetIn(Excluded),
+    /// Each list has ticks of its own, too: then they show each other.
+    FreeTicks,
 }
 
 impl Rule {
     pub fn lets_in(self, what: Excluded) -> bool {
         match self {
-            Rule::Apart => false,
+            Rule::Apart | Rule::FreeTicks => false,
             Rule::Turns => matches!(what, Excluded::ReadBuffer | Excluded::BitFive(_)),
             Rule::LetIn(kind) => what == kind,
         }
@@ -149,8 +152,10 @@ fn compare_pair<E: Engine>(
     reached.begin(pair);
     for (k, step) in pair.own.iter().enumerate() {
         do_others(&mut cards, pair, k, &mut reached.others);
+        same_way(&cards, pair.drive).map_err(|what| (k, what))?;
         let [a, b] = &mut cards;
         reached.call(step, a.engine.record().buffer != b.engine.record().buffer);
+        reached.ways(pair.drive, [&*a, &*b].map(|card| card.engine.report()));
         let replies = [a.call(step, Some(&mut reached.own)), b.call(step, None)];
         same_reply(&replies)
             .and_then(|()| same_drive(&cards, pair.drive))
@@ -158,6 +163,7 @@ fn compare_pair<E: Engine>(
         reached.answer(pair, step, &replies[0].0);
     }
     do_others(&mut cards, pair, pair.own.len(), &mut reached.others);
+    same_way(&cards, pair.drive).map_err(|what| (pair.own.len(), what))?;
     same_drive(&cards, pair.drive).map_err(|what| (pair.own.len(), what))
 }
 
@@ -202,6 +208,15 @@ fn same_reply([(here, area), (there, other_area)]: &[Reply; 2]) -> Result<(), St
     }
     if area != other_area {
         return Err("the data areas differ".to_string());
+    }
+    Ok(())
+}
+
+/// The way that a report gives for the drive.
+fn same_way<E: Engine>([a, b]: &[Card<E>; 2], drive: usize) -> Result<(), String> {
+    let [here, there] = [a, b].map(|card| card.engine.report()[drive]);
+    if here != there {
+        return Err(format!("its way is {here} and {there}"));
     }
     Ok(())
 }

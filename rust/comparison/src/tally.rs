@@ -4,6 +4,7 @@ use std::collections::BTreeMap;
 use std::fmt;
 use std::ops::AddAssign;
 
+use crate::arms::{self, Left};
 use crate::bounds::{self, Met};
 use crate::copies::{self, Side};
 use crate::duplicates;
@@ -12,9 +13,10 @@ use crate::keeps;
 use crate::paper::{Geometry, Kind, Request, COPY, LABEL};
 use crate::plain::{Answer, Drive};
 
-/// The sense codes of document 01.
-pub const CODES: [u8; 16] = [
-    0x04, 0x0A, 0x10, 0x12, 0x14, 0x15, 0x16, 0x19, 0x1A, 0x1C, 0x1D, 0x1E, 0x1F, 0x20, 0x21, 0x22,
+/// The sense codes of document 01, and 08h.
+pub const CODES: [u8; 17] = [
+    0x04, 0x08, 0x0A, 0x10, 0x12, 0x14, 0x15, 0x16, 0x19, 0x1A, 0x1C, 0x1D, 0x1E, 0x1F, 0x20, 0x21,
+    0x22,
 ];
 
 /// The commands of document 01, and Copy.
@@ -73,6 +75,26 @@ pub enum Event {
     Duplicate(usize),
     /// A sector whose bytes were looked up in the image at the end of a list.
     LookedUp,
+    /// 08h of a command of six bytes.
+    Travelling(u8),
+    /// A Seek or Recalibrate that set out, or that found the arm there, or that was there at once.
+    SetsOut {
+        opcode: u8,
+        inward: bool,
+    },
+    Stays(u8),
+    AtOnce(u8),
+    /// One of them that moved the arm, by the step option; with more than 255 cylinders to go.
+    StepOption(u8),
+    FarOut,
+    /// A tick brought an arm to its cylinder.
+    Arrived {
+        inward: bool,
+    },
+    /// A Reset stopped an arm.
+    Stopped,
+    /// A Seek showed where an arm had been left.
+    Shown(Left),
 }
 
 impl Event {
@@ -97,6 +119,19 @@ impl Event {
             &Side::ALL.map(Event::BothFail),
             &std::array::from_fn::<_, { duplicates::WAYS.len() }, _>(Event::Duplicate),
             &[Event::LookedUp],
+            &arms::REFUSED.map(Event::Travelling),
+            &[
+                Event::SetsOut { opcode: 0x01, inward: false },
+                Event::SetsOut { opcode: 0x0B, inward: false },
+                Event::SetsOut { opcode: 0x0B, inward: true },
+            ],
+            &[0x01, 0x0B].map(Event::Stays),
+            &[0x01, 0x0B].map(Event::AtOnce),
+            &[0, 1, 2, 3, 4].map(Event::StepOption),
+            &[Event::FarOut],
+            &[false, true].map(|inward| Event::Arrived { inward }),
+            &[Event::Stopped],
+            &Left::all().into_iter().map(Event::Shown).collect::<Vec<_>>(),
         ]
         .concat()
     }
@@ -109,6 +144,11 @@ impl Event {
             // Check Track and Assign Alternate, and codes that only they give.
             Event::Good(0x05 | 0x0E) | Event::BitFive(0x0E) | Event::Kept => !floppy,
             Event::Code(0x1A | 0x1F) => !floppy,
+            // From a fresh start a floppy's arm does not travel.
+            Event::Code(0x08) | Event::Arrived { .. } => !(fresh && floppy),
+            Event::Travelling(0x05 | 0x0E) => !floppy,
+            Event::Travelling(_) => !(fresh && floppy),
+            Event::SetsOut { .. } | Event::Stays(_) | Event::FarOut | Event::Shown(_) => !floppy,
             // What no format leaves.
             Event::Code(0x10 | 0x12 | 0x14 | 0x15 | 0x1E) => !fresh,
             // Pairs, which a floppy has from damage alone.
@@ -132,9 +172,13 @@ impl Event {
     }
 
     /// How often a comparison has to reach it where it is possible.
-    fn least(self) -> u64 {
-        match self {
-            Event::Bound(_) => bounds::LEAST,
+    fn least(self, starts: Starts) -> u64 {
+        match (self, starts) {
+            (Event::Bound(_), _) => bounds::LEAST,
+            // Where an arm was left takes a list to show.
+            (Event::Shown(_), Starts::Damaged) => 0,
+            (Event::Shown(_) | Event::FarOut, Starts::Fresh) => arms::LEAST,
+            (Event::StepOption(_), _) => arms::OPTIONS_LEAST,
             _ => 1,
         }
     }
@@ -168,6 +212,17 @@ impl fmt::Display for Event {
             Event::BothFail(side) => format!("20h, both, {side} first"),
             Event::Duplicate(way) => format!("duplicate: {}", duplicates::WAYS[*way]),
             Event::LookedUp => "looked up".to_string(),
+            Event::Travelling(opcode) => format!("{opcode:02X}h is 08h"),
+            Event::SetsOut { opcode, inward: true } => format!("{opcode:02X}h sets out inward"),
+            Event::SetsOut { opcode, inward: false } => format!("{opcode:02X}h sets out outward"),
+            Event::Stays(opcode) => format!("{opcode:02X}h, the arm is there"),
+            Event::AtOnce(opcode) => format!("{opcode:02X}h arrives at once"),
+            Event::StepOption(option) => format!("moved, step option {option}"),
+            Event::FarOut => "sets out beyond 255 cylinders".to_string(),
+            Event::Arrived { inward: true } => "arrived by tick, inward".to_string(),
+            Event::Arrived { inward: false } => "arrived by tick, outward".to_string(),
+            Event::Stopped => "stopped by Reset".to_string(),
+            Event::Shown(left) => format!("arm left {}", left.name()),
         };
         f.pad(&name)
     }
@@ -192,6 +247,11 @@ pub struct Tally {
     /// Among these, six bytes that begin with 20h, and ten that do not.
     pub short_copies: u64,
     pub long_others: u64,
+    pub ticks: u64,
+    pub reports: u64,
+    /// Starts with calls while both hard disks' arms travelled, and these calls.
+    pub both_starts: u64,
+    pub both_calls: u64,
     events: [BTreeMap<Event, u64>; Kind::ALL.len()],
 }
 
@@ -203,6 +263,10 @@ impl AddAssign<&Tally> for Tally {
         self.no_block += other.no_block;
         self.short_copies += other.short_copies;
         self.long_others += other.long_others;
+        self.ticks += other.ticks;
+        self.reports += other.reports;
+        self.both_starts += other.both_starts;
+        self.both_calls += other.both_calls;
         for kind in Kind::ALL {
             for (&event, &count) in &other.events[kind as usize] {
                 self.add(kind, event, count);
@@ -229,9 +293,11 @@ impl Tally {
         images: &[Vec<u8>; 4],
     ) {
         self.calls += 1;
-        let Call::Execute { block, given } = call else {
-            self.count_reset(drives);
-            return;
+        let (block, given) = match call {
+            Call::Reset => return self.count_reset(drives),
+            Call::Tick => return self.ticks += 1,
+            Call::Report => return self.reports += 1,
+            Call::Execute { block, given } => (block, given),
         };
         if answer.number == 1 {
             self.count_no_block(block);
@@ -292,11 +358,15 @@ impl Tally {
     }
 
     /// Totals by name.
-    fn totals(&self) -> [(&'static str, u64); 6] {
+    fn totals(&self) -> [(&'static str, u64); 10] {
         [
             ("number 1", self.no_block),
             ("number 1, six bytes, 20h", self.short_copies),
             ("number 1, ten bytes, not 20h", self.long_others),
+            ("ticks", self.ticks),
+            ("reports", self.reports),
+            ("calls while both travel", self.both_calls),
+            ("starts where both travel", self.both_starts),
             ("resets", self.resets),
             ("calls", self.calls),
             ("starts", self.starts),
@@ -310,7 +380,7 @@ impl Tally {
             for event in Event::all() {
                 let count = self.reached(kind, event);
                 let is_possible = event.is_possible(starts, kind);
-                let is_fault = if is_possible { count < event.least() } else { count > 0 };
+                let is_fault = if is_possible { count < event.least(starts) } else { count > 0 };
                 if is_fault {
                     faults.push(format!("{starts:?}, {kind:?}: {event} was reached {count} times"));
                 }

@@ -127,6 +127,14 @@ impl Engine for Misled {
         answer
     }
 
+    fn tick(&mut self) {
+        self.engine.tick();
+    }
+
+    fn report(&self) -> [i32; 4] {
+        self.engine.report()
+    }
+
     fn record(&self) -> Controller {
         self.engine.clone()
     }
@@ -221,16 +229,22 @@ fn bit_5_refused(engine: &mut Controller, mut lent: Lent) -> Answer {
     lent.right(engine)
 }
 
+/// A drive that an Initialize left pending.
+fn brought_in(sense: [u8; 4], config: Config) -> Drive {
+    Drive { sense, config, known: true, pending: true, ..Drive::default() }
+}
+
 /// Initialize takes what is valid on the other kind of drive.
 fn takes_bytes(of: Kind, engine: &mut Controller, mut lent: Lent) -> Answer {
     let mut answer = lent.right(engine);
     let (drive, failed) = (lent.drive(), answer.status & 2 != 0);
     let refused = lent.block[0] == 0x11 && lent.block[1] < 0x80 && lent.kind() != of && failed;
     let length = lent.images[drive].len();
+    let refused = refused && engine.drives[drive].way == 0;
     let takes = |config: &&Config| refused && Geometry::read(of, config, length).is_some();
     if let Some(config) = lent.given.first_chunk().filter(takes) {
         let sense = [0, 32 * drive as u8, 0, 0];
-        engine.drives[drive] = Drive { sense, config: *config, known: true, pending: true };
+        engine.drives[drive] = brought_in(sense, *config);
         answer.status -= 2;
     }
     answer
@@ -896,16 +910,16 @@ enum Verdict {
 }
 
 impl Initializing {
-    /// None where it is another command, or fails by its block or its data whatever the bound is.
+    /// None where it is another command, or fails by its block, its data or its arm whatever the bound is.
     fn new(engine: &Controller, lent: &Lent) -> Option<Initializing> {
         let (drive, kind) = (lent.drive(), lent.kind());
         let (image, config) = (&*lent.images[drive], *lent.given.first_chunk()?);
         let geometry = Geometry::read(kind, &config, image.len())?;
-        if lent.block[0] != 0x11 || lent.block[1] >= 0x80 {
+        let record = &engine.drives[drive];
+        if lent.block[0] != 0x11 || lent.block[1] >= 0x80 || record.way != 0 {
             return None;
         }
         let (front, label) = (*image.first_chunk()?, paper::label(kind, image));
-        let record = &engine.drives[drive];
         let in_force = record.known.then_some(record.config);
         Some(Initializing { drive, config, geometry, front, label, in_force })
     }
@@ -952,8 +966,11 @@ fn wrong_initialize(engine: &mut Controller, mut lent: Lent, judge: Judge) -> An
         engine.drives[drive].sense = [0x22, bits, 0, 0];
         return Answer { status: bits + 2, ..Answer::default() };
     }
-    let pending = verdict == Verdict::Pending;
-    engine.drives[drive] = Drive { sense: [0, bits, 0, 0], config, known: true, pending };
+    let before = std::mem::replace(&mut engine.drives[drive], brought_in([0, bits, 0, 0], config));
+    if verdict == Verdict::Settled {
+        let record = &mut engine.drives[drive];
+        (record.pending, record.target) = (false, before.target);
+    }
     Answer { status: bits, ..Answer::default() }
 }
 
@@ -1041,7 +1058,7 @@ fn refused_in_force(engine: &mut Controller, mut lent: Lent) -> Answer {
         initializing.filter(|_| answer.status & 2 != 0)
     {
         let sense = engine.drives[drive].sense;
-        engine.drives[drive] = Drive { sense, config, known: true, pending: true };
+        engine.drives[drive] = brought_in(sense, config);
     }
     answer
 }
@@ -1125,10 +1142,15 @@ fn wrong_bounds_of_labels_are_caught() {
 
 /// What the comparison says of an engine, on lists and on damaged images.
 fn both_comparisons(six: Command, ten: Command, reset: Reset) -> [Result<(), String>; 2] {
-    let make = |record: &Controller| Wrong { engine: record.clone(), six, ten, reset };
-    let all_made = |tally: Tally| assert_eq!(tally.starts, 1_000, "all starts were made");
-    let lists = compare::lists(&make, Scale::Small, bounds(1_000)).map(all_made);
-    [lists, compare::damaged(&make, Scale::Small, bounds(1_000)).map(all_made)]
+    let make = |record: &Controller| Wrong { six, ten, reset, ..Wrong::right(record) };
+    let (lists, damaged) = (bounds(1_000), bounds(2_000));
+    let all_made = |bounds: Bounds| {
+        move |tally: Tally| assert_eq!(tally.starts, bounds.starts, "all starts were made")
+    };
+    [
+        compare::lists(&make, Scale::Small, lists).map(all_made(lists)),
+        compare::damaged(&make, Scale::Small, damaged).map(all_made(damaged)),
+    ]
 }
 
 #[test]
@@ -1191,9 +1213,9 @@ fn every_use_of_the_last_slot_is_caught() {
 fn tamper(random: &mut Random, outcome: &mut Outcome) -> Option<()> {
     let bits = 1 << random.below(8);
     let drive = random.size_below(4);
-    let Outcome { answer, setting } = outcome;
+    let Outcome { answer, setting, ways } = outcome;
     let record = &mut setting.controller.drives[drive];
-    match random.below(13) {
+    match random.below(16) {
         0 => answer.number ^= bits,
         1 => answer.status ^= bits,
         2 => answer.message ^= bits,
@@ -1206,6 +1228,9 @@ fn tamper(random: &mut Random, outcome: &mut Outcome) -> Option<()> {
         9 => setting.controller.buffer[random.size_below(512)] ^= bits,
         10 => *setting.area.get_mut(random.size_below(600))? ^= bits,
         11 => *setting.images[drive].get_mut(random.size_below(20_000))? ^= bits,
+        12 => record.target ^= u16::from(bits),
+        13 => record.way ^= i32::from(bits),
+        14 => ways[drive] ^= i32::from(bits),
         _ => *setting.images[drive].last_mut()? ^= bits,
     }
     Some(())

@@ -290,7 +290,10 @@ fn written(slots: &[u32], (track, searched): (u32, u32)) -> Result<(), String> {
         setting.images[0][geometry.slot_data(searched, slot)].fill(WRITTEN);
     }
     setting.controller.buffer[..256].fill(WRITTEN);
-    let found = Outcome { answer: Answer { sectors: 1, ..Answer::default() }, setting };
+    // With one head the arm is left at the cylinder that the track is.
+    setting.controller.drives[0].target = track as u16;
+    let answer = Answer { sectors: 1, ..Answer::default() };
+    let found = Outcome { answer, setting, ways: [0; 4] };
     let call = Call::Execute { block: block.to_vec(), given: vec![WRITTEN; 256] };
     Outcome::of(before, &call).compare(&found)
 }

@@ -12,7 +12,7 @@ use comparison::paper::{self, Condition, Geometry, Kind, Place};
 use comparison::plain::{Answer, Controller};
 use comparison::power::{self, Start, Tear, Tried, Write};
 use comparison::proved::Proved;
-use wrong::{as_it_should, Command, Lent, Wrong};
+use wrong::{Command, Lent, Wrong};
 
 /// All that there is to try: with n sectors a track, 3n writes and so 3n + 1 places between them, and n
 /// of data, each torn in 4 ways; A's slot 0 is old in 6n + 1 of these and new in n.
@@ -245,9 +245,7 @@ fn bit_4_ignored(engine: &mut Controller, mut lent: Lent) -> Answer {
 }
 
 fn trial_of(start: &Start, six: Command) -> Result<Tried, String> {
-    let ten = as_it_should as Command;
-    let reset = Controller::reset;
-    let make = |record: &Controller| Wrong { engine: record.clone(), six, ten, reset };
+    let make = |record: &Controller| Wrong { six, ..Wrong::right(record) };
     power::try_start(&make, start)
 }
 

@@ -201,9 +201,61 @@ fn buffer_kept(engine: &mut Controller, images: [&[u8]; 4]) -> Answer {
     answer
 }
 
+/// A command steps the other drives' arms.
+fn arms_stepped(engine: &mut Controller, mut lent: Lent) -> Answer {
+    let answer = lent.right(engine);
+    for (drive, record) in engine.drives.iter_mut().enumerate() {
+        if drive != lent.drive() {
+            record.way -= record.way.signum();
+        }
+    }
+    answer
+}
+
+/// There is one motor: a Seek that sets out stops the other arms.
+fn arms_stopped(engine: &mut Controller, mut lent: Lent) -> Answer {
+    let before = engine.drives[lent.drive()].way;
+    let answer = lent.right(engine);
+    if before == 0 && engine.drives[lent.drive()].way != 0 {
+        for drive in (0..4).filter(|&drive| drive != lent.drive()) {
+            engine.drives[drive].way = 0;
+        }
+    }
+    answer
+}
+
+/// 08h is given while any arm travels: the answers alone show it.
+fn any_arm_refuses(engine: &mut Controller, mut lent: Lent) -> Answer {
+    let travels = engine.drives.iter().any(|drive| drive.way != 0);
+    let mut answer = lent.right(engine);
+    if travels && lent.block[0] == 0x00 && answer.number == 0 {
+        answer.status |= 2;
+    }
+    answer
+}
+
+/// A tick steps one arm, that of the first drive that travels.
+fn one_arm_stepped(engine: &mut Controller) {
+    if let Some(drive) = engine.drives.iter_mut().find(|drive| drive.way != 0) {
+        drive.way -= drive.way.signum();
+    }
+}
+
+/// A tick that finds both hard disks travelling does nothing.
+fn two_arms_stuck(engine: &mut Controller) {
+    if engine.drives[..2].iter().any(|drive| drive.way == 0) {
+        engine.tick();
+    }
+}
+
+/// The record is right; the report counts the ways together.
+fn ways_together(engine: &Controller) -> [i32; 4] {
+    [engine.drives.iter().map(|drive| drive.way).sum(); 4]
+}
+
 fn difference(rule: Rule, command: Command, reset: Reset) -> Result<Reached, Difference> {
     let make =
-        |record: &Controller| Wrong { engine: record.clone(), six: command, ten: command, reset };
+        |record: &Controller| Wrong { six: command, ten: command, reset, ..Wrong::right(record) };
     compare(&make, rule, 1_000)
 }
 
@@ -225,6 +277,42 @@ fn drives_that_show_are_caught() {
         println!("{name}: {caught}");
         assert_eq!(caught.excluded, None);
     }
+}
+
+/// Makes a wrong engine from a record.
+type Make = fn(&Controller) -> Wrong;
+
+#[test]
+fn arms_that_show_are_caught() {
+    let engines: [(&str, Make); 6] = [
+        ("a command steps others' arms", |record| Wrong {
+            six: arms_stepped,
+            ..Wrong::right(record)
+        }),
+        ("a Seek stops others' arms", |record| Wrong { six: arms_stopped, ..Wrong::right(record) }),
+        ("any arm refuses", |record| Wrong { six: any_arm_refuses, ..Wrong::right(record) }),
+        ("a tick steps one arm", |record| Wrong { tick: one_arm_stepped, ..Wrong::right(record) }),
+        ("two arms get stuck", |record| Wrong { tick: two_arms_stuck, ..Wrong::right(record) }),
+        ("ways are reported together", |record| Wrong {
+            report: ways_together,
+            ..Wrong::right(record)
+        }),
+    ];
+    for (name, make) in engines {
+        let Err(caught) = compare(&make, Rule::Apart, 1_000) else { panic!("{name}") };
+        println!("{name}: {caught}");
+        assert_eq!(caught.excluded, None);
+    }
+}
+
+/// Lists that do not agree in their ticks show each other.
+#[test]
+fn ticks_have_to_agree() {
+    let Err(shown) = compare(&Controller::clone, Rule::FreeTicks, 1_000) else {
+        panic!("ticks make no difference");
+    };
+    println!("{shown}");
+    assert_eq!(shown.excluded, None);
 }
 
 /// What only the buffer shows is no difference for the request's own lists, but one for turns.

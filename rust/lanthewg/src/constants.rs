@@ -1,10 +1,12 @@
 //! The header's constants under the same names, without `LANTHEWG_` (a test holds them equal).
 
 /// The version of header, wrapper and engine.
-pub const VERSION: &str = "0.8.0";
+pub const VERSION: &str = "0.9.0";
 
 // Byte 0 of a block. Byte 1 has 32 × drive. A block has BLOCK_SIZE bytes, a Copy's COPY_BLOCK_SIZE.
+/// [`SENSE_SEEKING`] says that the drive's arm is on its way.
 pub const OPCODE_TEST_READY: u8 = 0x00;
+/// Moves the arm to cylinder 0, as [`OPCODE_SEEK`] does to the address's.
 pub const OPCODE_RECALIBRATE: u8 = 0x01;
 pub const OPCODE_REQUEST_SENSE: u8 = 0x03;
 pub const OPCODE_FORMAT_DRIVE: u8 = 0x04;
@@ -13,6 +15,10 @@ pub const OPCODE_FORMAT_TRACK: u8 = 0x06;
 pub const OPCODE_FORMAT_BAD_TRACK: u8 = 0x07;
 pub const OPCODE_READ: u8 = 0x08;
 pub const OPCODE_WRITE: u8 = 0x0A;
+/// Moves the arm to the address's cylinder. On a hard disk with step option 1 to 4 it is answered at the
+/// start of the movement, and the drive needs [`Controller::tick`].
+///
+/// [`Controller::tick`]: crate::Controller::tick
 pub const OPCODE_SEEK: u8 = 0x0B;
 /// Hard disks only. **Formats both tracks, and what they held is lost, unless [`CONTROL_KEEP`] is set.**
 pub const OPCODE_ASSIGN_ALTERNATE: u8 = 0x0E;
@@ -131,6 +137,8 @@ pub const STATUS_ERROR: u8 = 0x02;
 pub const SENSE_NONE: u8 = 0x00;
 /// There is no such drive.
 pub const SENSE_ABSENT: u8 = 0x04;
+/// The drive's arm is on its way: [tick](crate::Controller::tick), and send the command again.
+pub const SENSE_SEEKING: u8 = 0x08;
 /// No parameters are in force that are valid with the image; Reset takes the label's.
 pub const SENSE_NO_PARAMETERS: u8 = 0x0A;
 /// The track's first ID has a flag above 3.

@@ -7,6 +7,10 @@
 //! **A Copy is another kind of command.** Its block has ten bytes, it changes the image of its second
 //! drive, and one of its failures has written everything: see [`OPCODE_COPY`].
 //!
+//! **A seek may need ticks.** On a hard disk with step option 1 to 4 a Seek or Recalibrate is answered at
+//! the start of the movement, and until the arm is there the drive's commands fail with
+//! [`SENSE_SEEKING`]: see [`Controller::tick`].
+//!
 //! A [`Controller`] is lent with four disk images to each call, by drive: 0 and 1 are hard disks, 2
 //! and 3 floppies. An image under 16 bytes, so an empty slice too, is an absent drive. Every call is
 //! proved for any record, block, data and images, of any bytes and lengths; borrowing rules out what
@@ -63,6 +67,10 @@ pub struct Drive {
     pub config: [u8; CONFIG_SIZE],
     pub known: bool,
     pub pending: bool,
+    /// The cylinder where the arm rests or where it goes.
+    pub target: u16,
+    /// The cylinders still to go: positive inward, negative toward cylinder 0, 0 at rest.
+    pub way: i32,
 }
 
 /// The controller's record.
@@ -108,6 +116,12 @@ impl Answer {
     }
 }
 
+/// What a report gives, by drive.
+#[repr(C)]
+struct Ways {
+    ways: [i32; 4],
+}
+
 extern "C" {
     fn lanthewg_fresh(
         c: *mut Controller,
@@ -148,6 +162,8 @@ extern "C" {
         image3: *mut u8,
         length3: usize,
     ) -> Answer;
+    fn lanthewg_tick(c: *mut Controller);
+    fn lanthewg_report(c: *const Controller) -> Ways;
 }
 
 impl Controller {
@@ -159,6 +175,8 @@ impl Controller {
             config: [0; CONFIG_SIZE],
             known: false,
             pending: false,
+            target: 0,
+            way: 0,
         };
         let mut record = Controller { buffer: [0; BUFFER_SIZE], drives: [blank; 4] };
         let [image0, image1, image2, image3] = images;
@@ -180,7 +198,8 @@ impl Controller {
     }
 
     /// Reset: as `fresh`, and its answer is always good. Also after a change of disk, before any other
-    /// command: without it the former disk's parameters stay in force.
+    /// command: without it the former disk's parameters stay in force. Every arm is at cylinder 0 then,
+    /// and none is on its way.
     #[inline]
     pub fn reset(&mut self, images: [&[u8]; 4]) -> Answer {
         let [image0, image1, image2, image3] = images;
@@ -232,5 +251,71 @@ impl Controller {
                 image3.len(),
             )
         }
+    }
+
+    /// Moves every arm that is on its way one cylinder, as fast as the firmware wants arms to move: from
+    /// a timer, say. It is lent no image. An arm at rest stays.
+    ///
+    /// On a hard disk with step option 1 to 4 (the high four bits of configuration byte 3, of the
+    /// parameters in force) Seek and Recalibrate are answered at the start of the movement. Until the arm
+    /// is there, every command of that drive but Request Sense and the buffer's fails with
+    /// [`SENSE_SEEKING`], also a Copy from it or to it; nothing is changed but the sense. Other drives work
+    /// meanwhile. **Without ticks only a Reset frees the drive.** With step option 0, and on a floppy, the
+    /// arm arrives before the command is answered, and no tick is needed.
+    ///
+    /// A tick changes the record, and `&mut` sees to it that no other call on it is under way. So a timer
+    /// in another thread cannot tick while a command runs: let it send, and tick in the loop that makes
+    /// the calls, between two of them, as here; or keep the controller in a `std::sync::Mutex`, where a
+    /// tick waits for the command that holds it. An interrupt cannot wait for a lock: let it count, and
+    /// tick in the main loop. Ticks that come late only make a seek longer.
+    ///
+    /// ```
+    /// use lanthewg::*;
+    /// use std::sync::mpsc::channel;
+    /// use std::thread::{sleep, spawn};
+    /// use std::time::Duration;
+    ///
+    /// // A hard disk of three cylinders with step option 1. The format leaves the arm at the last, 2.
+    /// let mut disk = vec![0; 25_360];
+    /// let mut card = Controller::fresh([&disk, &[], &[], &[]]);
+    /// let mut call = |card: &mut Controller, block: [u8; BLOCK_SIZE], given: &[u8]| {
+    ///     card.execute(&block, given, &mut [0; 256], [&mut disk, &mut [], &mut [], &mut []])
+    /// };
+    /// let config = [0, 3, 1, 0x10, 1, 0, 0, 0, 0, 11];
+    /// assert!(call(&mut card, [OPCODE_INITIALIZE, 0, 0, 0, 0, 0], &config).is_good());
+    /// assert!(call(&mut card, [OPCODE_FORMAT_DRIVE, 0, 0, 0, 1, 0], &[]).is_good());
+    ///
+    /// // A timer that sends until nobody listens.
+    /// let (timer, ticks) = channel();
+    /// let timer = spawn(move || while timer.send(()).is_ok() { sleep(Duration::from_micros(100)) });
+    ///
+    /// // Recalibrate is good at once, and the arm has two cylinders to go. A Read has to wait.
+    /// assert!(call(&mut card, [OPCODE_RECALIBRATE, 0, 0, 0, 0, 0], &[]).is_good());
+    /// assert_eq!(card.report(), [-2, 0, 0, 0]);
+    /// let mut waited = 0;
+    /// while call(&mut card, [OPCODE_READ, 0, 0, 0, 1, 0], &[]).is_failed() {
+    ///     assert_eq!(card.drives[0].sense[0], SENSE_SEEKING);
+    ///     ticks.recv().unwrap();
+    ///     card.tick();
+    ///     waited += 1;
+    /// }
+    /// assert_eq!((waited, card.report()), (2, [0; 4]));
+    /// drop(ticks);
+    /// timer.join().unwrap();
+    /// ```
+    #[inline]
+    pub fn tick(&mut self) {
+        // SAFETY: the record is lent to this call alone.
+        unsafe { lanthewg_tick(self) }
+    }
+
+    /// By drive, the cylinders that its arm has still to go: positive inward, negative toward cylinder 0,
+    /// 0 at rest. It changes nothing and is lent no image: a drive whose image is gone still shows its
+    /// way. A drive whose way is w is ready after exactly |w| ticks, if no Reset comes.
+    #[must_use = "a report does nothing but tell"]
+    #[inline]
+    pub fn report(&self) -> [i32; 4] {
+        // SAFETY: the record is lent, and not changed.
+        unsafe { lanthewg_report(self) }.ways
     }
 }

@@ -2,11 +2,11 @@
 -- copied, and the buffer is lent where it lies, for a lifetime ν that is the call's own. Both are passed to `execute_on` with the other
 -- parameters. Once the call is over ν ends and the buffer is back, with what the call left in it; the drives that come back are stored in their
 -- place, and the answer is the result. All that is known of `execute_on` is its contract, which says the same of drives and a buffer.
-use Rattle.walks.proofs.Kit.{◌≡◌, refl, ℕ, ◌+◌, [], ◌∷◌, Ura, full_share, w8, named, vptr, vcons, vnil, SProp, id⊢, GName, fat, flft}
+use Rattle.walks.proofs.Kit.{◌≡◌, refl, ℕ, ◌+◌, [], ◌∷◌, Ura, full_share, w8, named, vptr, vcons, vnil, SProp, id⊢, GName, flft}
 use Rattle.walks.proofs.Kit.{Memory, Routine, Calls, Loops, WpFn, Fun, Contract, Triple, Clauses, Lasts, FmC, fm_of}
 use Rattle.walks.proofs.Kit.{Item, ‵, raw, ◌⊛◌, ◌$◌, ◌∵◌, !, qed, by, move, use1, drop, rewrite, split, join, fsplit, fjoin, lft_new, lft_end}
 use Rattle.walks.proofs.Kit.{look, init, stop, from, of_opd, and_then, no_more, land, returns, calls_at}
-use Rattle.walks.proofs.Kit.{u8, Is, cell_at, uint_Makes, uint_vals, uint_Tells, Array, owned}
+use Rattle.walks.proofs.Kit.{u8, Is, uint_Makes, uint_vals, uint_Tells, Array, owned}
 use Rattle.walks.proofs.Locals.{starts, frees_all}
 use Rattle.walks.proofs.Places.{part_at, local_at, field_of_lem, within_at, lent_within, lent_from, pair_of, sets, sets_within}
 use Rattle.walks.proofs.Records.{opens_record, closes_record, writes_out}
@@ -15,20 +15,19 @@ use Rattle.walks.proofs.Passed.{shared_slice, lent_slice, lent_again_typed}
 use Rattle.walks.proofs.Callee.{contract_of, lives, arguments, ensured_by, tokens as asked-tokens, offers, answered, routine_meets}
 use Rattle.walks.proofs.Lend.{others, Lends, Call, tokens, vals, flats, entry, to_ensure, suited, splits, exits, Walk, lent_meets}
 use denote.Struct.Laws as laws
-use Rattle.model.specs.declared.record.Controller.{Controller}
-use Rattle.engine.specs.declared.run.Ran.{Ran}
+use Rattle.model.specs.declared.record.Ran.{Ran}
 use Rattle.model.specs.contracts.record.Drive as drive
 use Rattle.model.specs.contracts.record.Controller as controller
 use Rattle.model.proofs.record.Controller.TheLaws as controller'
 use Rattle.model.specs.contracts.record.Answer as answer
 use Rattle.model.proofs.record.Answer.TheLaws as answer'
-use Rattle.engine.specs.contracts.run.Ran as ran
-use Rattle.engine.proofs.run.Ran.TheLaws as ran'
+use Rattle.model.specs.contracts.record.Ran as ran
+use Rattle.model.proofs.record.Ran.TheLaws as ran'
 use Rattle.engine.specs.contracts.run.execute_on as execute
 use Rattle.engine.proofs.run.execute_on.Symbol as execute'
 use Rattle.engine.proofs.run.execute_on.Met as execute-met
 use Rattle.firmware.proofs.Fields.{buffer_val, drives_val, buffer_is, drives_are, drives_passed, drives_left, answer_left}
-use Rattle.firmware.proofs.Fields.{joined, joined_is, drives_make, drives_typed, ran_typed, answer_typed}
+use Rattle.firmware.proofs.Fields.{joined, joined_is, drives_make, drives_typed, ran_typed, answer_typed, takes, keeps}
 use Rattle.firmware.specs.contracts.lanthewg_execute as self
 use Rattle.firmware.specs.contracts.lanthewg_execute.Key as key
 use Rattle.firmware.proofs.lanthewg_execute.Statement as stated
@@ -89,21 +88,13 @@ module _ {M : Type 1} {𝓤 : Ura M} (𝓛 : Logic 𝓤) (mem : Memory → SProp
         ≡ to_ensure this 𝓛 (self.clauses 𝓛 mem run) x tt (joined ws.1.0 r.drives) r.answer ws.1.1
     same r ws = refl
 
-  -- the cell of the record c, as MIR has its type, and as the borrow has it
-  module _ (x : Call this) (c : Controller) where
-    abbrev taken : Item 𝓤
-    taken = ‵ (fat full_share controller'.mir x.block x.offset (laws.val controller.the_type controller'.the_laws c))
-
-    abbrev kept : Item 𝓤
-    kept = ‵ (cell_at full_share (controller.the_row).mir (laws.vals controller.the_type controller'.the_laws c) x.block x.offset)
-
   walk : (C : Calls 𝓤 H) (Λ : Loops 𝓤 H) → FmC 𝓤 H 𝓛.laws C → Triple 𝓤 (C execute'.name) contract
       → Walk this 𝓛 (self.clauses 𝓛 mem run) (WpFn 𝓤 H C Λ code.function)
   walk C Λ fm met x g known =
       qed 𝓛 (raw (entry this x 𝓛) ∷ []) ∵ splits this x ! $ starts ! C Λ code.function (flats this x) _ (suited this x 𝓛 known) (λ l.
       -- [_21; …; _0; …; obs; the borrow; its token; what the others own; their tokens]
       move ! (44 ∷ 45 ∷ 46 ∷ []) $ opens_record ! tt controller.the_type controller'.the_laws x.held x.block x.offset (λ was.
-      move ! (1 ∷ []) $ drop ! $ use1 𝓛 (taken x x.held) (𝓛.laws.raw_at full_share controller'.mir x.block x.offset _) $
+      move ! (1 ∷ []) $ drop ! $ takes full_share x.block x.offset x.held ! $
       -- [the record; the open borrow; obs; auth; _21; …; _0; …; what the others own; their tokens]
       sets ! (of_opd ! (within_at ! 44 0 1 refl refl refl)) 26 refl (drives_typed 𝓛 x.held.drives (drives_are x.held _ was)).0 $
       sets ! (lent_within ! 44 0 refl refl) 24 refl (tt, tt) $
@@ -149,7 +140,7 @@ module _ {M : Type 1} {𝓤 : Ura M} (𝓛 : Logic 𝓤) (mem : Memory → SProp
       sets_within ! (of_opd ! (field_of_lem ! refl (part_at ! 31 0 refl refl))) 47 0 1 refl refl refl
       (drives_typed 𝓛 r.drives (drives_left r w is)).0 $
       sets ! (of_opd ! (field_of_lem ! refl (part_at ! 31 1 refl refl))) 49 refl (answer_typed 𝓛 r w is).0 $
-      use1 𝓛 (kept x (joined ws.1.0 r.drives)) (𝓛.laws.at_raw full_share controller'.mir x.block x.offset _) $
+      keeps full_share x.block x.offset (joined ws.1.0 r.drives) ! $
       move ! (0 ∷ 4 ∷ 5 ∷ 6 ∷ []) $ closes_record ! tt controller.the_type controller'.the_plain (joined ws.1.0 r.drives) _
       (joined_is ws.1.0 r.drives left (drives_left r w is)) x.block x.offset $
       -- [obs; the borrow; its token; the others' tokens; their last values; what is to be ensured; _21; …; _0; …]

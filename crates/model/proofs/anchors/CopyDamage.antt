@@ -5,6 +5,7 @@ use mathlib.Core.Path.{◌≡◌, refl}
 use mathlib.Core.Bool.{true, false}
 use mathlib.Core.List.{List, [], ◌∷◌, ◌++◌, map}
 use lib.ListN.{set, replicate}
+use lib.IntN.{pos}
 use Rattle.base.specs.Pick.{pick}
 use Rattle.base.specs.Part.{part, splice}
 use Rattle.base.specs.First.{first_from, first_below}
@@ -74,7 +75,7 @@ holed = set pairs 36 0
 copies : (from to : Params) → (at count onto : ℕ) → (source target : List ℕ) → CopyEffect
 copies from to at count onto source target =
     copy_with (copy_of (0x20 ∷ 0x20 ∷ 0 ∷ at ∷ count ∷ 0x40 ∷ 0 ∷ onto ∷ 0 ∷ 0 ∷ [])) (Valid from) (Valid to)
-    (record { sense = 0x16 ∷ 0x20 ∷ 0 ∷ 0 ∷ []; config = replicate 10 0; known = true; pending = false }) (1 ∷ 2 ∷ 3 ∷ 4 ∷ [])
+    (record { sense = 0x16 ∷ 0x20 ∷ 0 ∷ 0 ∷ []; config = replicate 10 0; known = true; pending = false; target = 77; way = pos 0 }) (1 ∷ 2 ∷ 3 ∷ 4 ∷ [])
     ([] ∷ source ∷ target ∷ [])
 
 -- number, status, sectors and bytes, the sense, the buffer; then the images

@@ -5,6 +5,7 @@ use mathlib.Core.Path.{◌≡◌, refl}
 use mathlib.Core.Bool.{Bool, true, false}
 use mathlib.Core.List.{List, [], ◌∷◌, map}
 use lib.ListN.{replicate}
+use lib.IntN.{ℤ, pos, negsuc}
 use Rattle.base.specs.Pick.{pick}
 use Rattle.base.specs.Part.{part}
 use Rattle.base.specs.Same.{same_bytes}
@@ -23,7 +24,8 @@ use Rattle.model.specs.Checks.{reach_of, filling_of, shares, saying_of, judge_co
 use Rattle.model.specs.Sense.{addressed, sense_of}
 use Rattle.model.specs.Feed.{command}
 use Rattle.model.specs.Record.{blank_drive, drive_at, sensed, setting_in, failed, unless_named}
-use Rattle.model.specs.Engine.{image_of, view_of, obey, obey_copy, left, left_by_copy, on_drive, on_drives, execute, loaded_by, loaded, fresh}
+use Rattle.model.specs.Arm.{is_travelling, arms_still, brought}
+use Rattle.model.specs.Engine.{image_of, view_of, obey, obey_copy, left, left_by_copy, arms_brought, on_drive, on_drives, execute, loaded_by, loaded, fresh}
 use Rattle.model.specs.Machine.{fresh_disk, fresh_machine, setting_with, seen, ordered, ordered_copy, step, failing_on, providing_on}
 
 -- ---- Number 1: a block that begins with 20h has not ten bytes, any other, an empty one too, not six
@@ -44,7 +46,7 @@ numbers = 1 ∷ 1 ∷ 1 ∷ 1 ∷ 0 ∷ 1 ∷ 0 ∷ 1 ∷ 0 ∷ 1 ∷ 0 ∷ 1 �
 ten_or_six :
     (map (λ (block : List ℕ). (execute (fresh []) block [] [] []).outcome.answer.number) blocks ≡ numbers)
     × (map (λ (block : List ℕ). (step (fresh_machine (λ d. 0)) (command block [] 0)).0.number) blocks ≡ numbers)
-unfolding bytes blocks numbers execute on_drive on_drives left left_by_copy obey obey_copy unless_named failed fresh step fresh_machine fresh_disk ordered
+unfolding bytes blocks numbers execute on_drive on_drives left left_by_copy arms_brought obey obey_copy unless_named failed fresh step fresh_machine fresh_disk ordered
     ordered_copy seen setting_with providing_on failing_on view_of setting_in present_with pick medium_of is_floppy block_of copy_of row_for judge judge_copy
     judged saying_of filling_of in_order hits_of is_unknown block_wrong control_wrong is_among check_number is_whole block_length is_copy
     image_of
@@ -55,7 +57,7 @@ sense_place : (d : ℕ) → List ℕ
 sense_place d = (drive_at (execute (fresh []) (0x20 ∷ 0x40 ∷ replicate 8 0) [] [] []).outcome.controller d).sense
 
 sensed_there : (sense_place 2 ≡ 0x04 ∷ 0x40 ∷ 0 ∷ 0 ∷ []) × (sense_place 0 ≡ 0 ∷ 0 ∷ 0 ∷ 0 ∷ [])
-unfolding sense_place execute on_drives left_by_copy obey_copy unless_named failed sensed drive_at fresh loaded loaded_by view_of setting_in present_with pick
+unfolding sense_place execute on_drives left_by_copy arms_brought arms_still brought obey_copy unless_named failed sensed drive_at fresh loaded loaded_by view_of setting_in present_with pick
     medium_of is_floppy block_of copy_of row_for judge judge_copy judged saying_of filling_of in_order hits_of is_unknown block_wrong control_wrong is_among
     check_number is_whole block_length is_copy image_of part same_bytes label_setting addressed sense_of blank_drive
 sensed_there = (refl, refl)
@@ -88,20 +90,24 @@ copy_fields :
 unfolding one fields ten copy_of block_of count_of pick
 copy_fields = (refl, refl, refl, refl, refl, refl)
 
--- ---- Drives of one head as the checks see them: known or not, pending or not; the image's length
-drive : Medium → (config : List ℕ) → (known pending : Bool) → (image : ℕ) → View
-drive medium config known pending image =
-    view_of medium (record { sense = replicate 4 0; config = config; known = known; pending = pending }) image
+-- ---- Drives of one head as the checks see them: known or not, pending or not; the arm's way to cylinder 5; the image's length
+drive : Medium → (config : List ℕ) → (way : ℤ) → (known pending : Bool) → (image : ℕ) → View
+drive medium config way known pending image =
+    view_of medium (record { sense = replicate 4 0; config = config; known = known; pending = pending; target = 5; way = way }) image
 
 -- so many tracks of 32 sectors of 256 bytes, of 17 of 512, of 16 of 128
 of256 : (tracks : ℕ) → (known pending : Bool) → (image : ℕ) → View
-of256 tracks = drive HardDisk (0 ∷ tracks ∷ 1 ∷ 0 ∷ 1 ∷ 0 ∷ 0 ∷ 0 ∷ 0 ∷ 0 ∷ [])
+of256 tracks = drive HardDisk (0 ∷ tracks ∷ 1 ∷ 0 ∷ 1 ∷ 0 ∷ 0 ∷ 0 ∷ 0 ∷ 0 ∷ []) (pos 0)
 
 of512 : (tracks : ℕ) → (known pending : Bool) → (image : ℕ) → View
-of512 tracks = drive HardDisk (0 ∷ tracks ∷ 1 ∷ 0 ∷ 2 ∷ 0 ∷ 0 ∷ 0 ∷ 0 ∷ 0 ∷ [])
+of512 tracks = drive HardDisk (0 ∷ tracks ∷ 1 ∷ 0 ∷ 2 ∷ 0 ∷ 0 ∷ 0 ∷ 0 ∷ 0 ∷ []) (pos 0)
 
 of128 : (tracks : ℕ) → (known pending : Bool) → (image : ℕ) → View
-of128 tracks = drive Floppy (0 ∷ tracks ∷ 1 ∷ 1 ∷ 0 ∷ 0 ∷ 0 ∷ 0 ∷ 0 ∷ 0 ∷ [])
+of128 tracks = drive Floppy (0 ∷ tracks ∷ 1 ∷ 1 ∷ 0 ∷ 0 ∷ 0 ∷ 0 ∷ 0 ∷ 0 ∷ []) (pos 0)
+
+-- one track of 32 sectors of 256 bytes with step option 2, and its arm on the way
+leaving : (way : ℤ) → (known pending : Bool) → (image : ℕ) → View
+leaving = drive HardDisk (0 ∷ 1 ∷ 1 ∷ 0x20 ∷ 1 ∷ 0 ∷ 0 ∷ 0 ∷ 0 ∷ 0 ∷ [])
 
 -- ready, in images of exactly their lengths: 32 sectors of 256 bytes, 17 of 512, 32 of 128
 hard : View
@@ -194,11 +200,44 @@ source_first :
     × (with_all 0x00 (at hard 0x20 31) ≡ always 0xA1 0x20 0 0x1F)
     × (with_all 0x00 (at (of256 1 true true 8464) 0x20 31) ≡ always 0xA1 0x20 0 0x1F)
     × (with_all 0x00 (at (of256 1 true true 8464) 0x20 30) ≡ always 0x16 0x20 0 0)
-unfolding drive of256 of128 hard floppy at heard said ten four destinations of_destination with_all always
-    view_of setting_in present_with medium_of is_floppy is_in ranges_of setting_of setting_by fields_in size_for fitted_to pick block_of copy_of count_of row_for
+    -- 08h (request E9): after 22h, 04h and 0Ah, before 21h and 16h
+    × (with_all 0x00 (at (leaving (pos 1) true false 8464) 0x20 30) ≡ always 0x08 0x20 0 0)
+    × (with_all 0x00 (at (leaving (negsuc 0) true true 8464) 0x20 31) ≡ always 0x08 0x20 0 0)
+    × (with_all 0x01 (at (leaving (pos 1) true false 8464) 0x20 30) ≡ always 0x22 0x20 0 0)
+    × (with_all 0x00 (at (leaving (pos 1) true true 15) 0x20 99) ≡ always 0x04 0x20 0 0)
+    × (with_all 0x00 (at (leaving (negsuc 0) true true 8463) 0x20 99) ≡ always 0x0A 0x20 0 0)
+    × (with_all 0x00 (at (leaving (pos 0) true false 8464) 0x20 30) ≡ of_destination)
+unfolding drive leaving of256 of128 hard floppy at heard said ten four destinations of_destination with_all always
+    view_of is_travelling setting_in present_with medium_of is_floppy is_in ranges_of setting_of setting_by fields_in size_for fitted_to pick block_of copy_of count_of row_for
     judge_copy judge reach_of judged saying_of filling_of shares in_order hits_of is_unknown block_wrong control_wrong with_params interleave_wrong past_end
     not_spared is_valid size_in bytes_of is_among check_number addressed sense_of
-source_first = (refl, refl, refl, refl, refl, refl, refl, refl, refl, refl, refl, refl)
+source_first = (refl, refl, refl, refl, refl, refl, refl, refl, refl, refl, refl, refl, refl, refl, refl, refl, refl, refl)
+
+-- ---- The destination's arm on its way (request E9): two sectors of 128 bytes of drive 3 are copied to one of 256 of drive 1
+onto_leaving : (from : View) → (to : View) → (unit address : ℕ) → List ℕ
+onto_leaving from to unit address = said 2 0 (at from 0x60 30) (at to unit address)
+
+destination_leaving :
+    -- 08h, inward and outward; arrived it is none
+    (onto_leaving floppy (leaving (pos 1) true false 8464) 0x20 31 ≡ four 0x08 0x20 0 0)
+    × (onto_leaving floppy (leaving (negsuc 0) true false 8464) 0x20 31 ≡ four 0x08 0x20 0 0)
+    × (onto_leaving floppy (leaving (pos 0) true false 8464) 0x20 31 ≡ [])
+    -- after its 22h, 04h and 0Ah, before its 21h and 16h
+    × (onto_leaving floppy (leaving (pos 1) true false 8464) 0xA0 31 ≡ four 0x22 0x20 0 0)
+    × (onto_leaving floppy (leaving (pos 1) true true 15) 0x20 32 ≡ four 0x04 0x20 0 0)
+    × (onto_leaving floppy (leaving (negsuc 0) true true 8463) 0x20 32 ≡ four 0x0A 0x20 0 0)
+    × (onto_leaving floppy (leaving (pos 1) true true 8464) 0x20 32 ≡ four 0x08 0x20 0 0)
+    -- after all of the source's row
+    × (onto_leaving (of128 2 true true 4368) (leaving (pos 1) true false 8464) 0x20 31 ≡ four 0x16 0x60 0 0)
+    -- on one drive it is the source's, before 22h for a sector that both share
+    × (said 3 0 (at (leaving (negsuc 4) true false 8464) 0x20 5) (at (leaving (negsuc 4) true false 8464) 0x20 7) ≡ four 0x08 0x20 0 0)
+    -- of two drives too
+    × (said 2 0 (at (leaving (pos 4) true false 8464) 0x20 5) (at (leaving (pos 2) true false 8464) 0x00 7) ≡ four 0x08 0x20 0 0)
+unfolding drive leaving of128 floppy at heard said ten four onto_leaving
+    view_of is_travelling setting_in present_with medium_of is_floppy is_in ranges_of setting_of setting_by fields_in size_for fitted_to pick block_of copy_of count_of row_for
+    judge_copy judge reach_of judged saying_of filling_of shares in_order hits_of is_unknown block_wrong control_wrong with_params interleave_wrong past_end
+    not_spared is_valid size_in bytes_of is_among check_number addressed sense_of
+destination_leaving = (refl, refl, refl, refl, refl, refl, refl, refl, refl, refl)
 
 -- ---- The destination's reach is what the bytes fill, the last sector perhaps in part: the last address that fits, and one more
 fits : (count : ℕ) → (from to : Side) → List ℕ
@@ -234,7 +273,7 @@ reach :
     × (fits 3 (at large 0x00 14) (at hard 0x20 0) ≡ [])
     × (fits 3 (at large 0x00 15) (at hard 0x20 0) ≡ four 0xA1 0x00 0 15)
 unfolding drive of256 of512 of128 hard large floppy at heard said ten four fits
-    view_of setting_in present_with medium_of is_floppy is_in ranges_of setting_of setting_by fields_in size_for fitted_to pick block_of copy_of count_of row_for
+    view_of is_travelling setting_in present_with medium_of is_floppy is_in ranges_of setting_of setting_by fields_in size_for fitted_to pick block_of copy_of count_of row_for
     judge_copy judge reach_of judged saying_of filling_of shares in_order hits_of is_unknown block_wrong control_wrong with_params interleave_wrong past_end
     not_spared is_valid size_in bytes_of is_among check_number addressed sense_of
 reach = (refl, refl, refl, refl, refl, refl, refl, refl, refl, refl, refl, refl, refl, refl, refl, refl, refl, refl, refl, refl, refl)
@@ -257,7 +296,7 @@ many :
     × (fits 0 (at (of512 16 true false 141456) 0x20 16) (at (of128 64 true false 139280) 0x40 1) ≡ four 0xA1 0x40 0 1)
     × (fits 0 (at (of512 16 true false 141456) 0x20 17) (at (of128 64 true false 139280) 0x40 0) ≡ four 0xA1 0x20 0 17)
 unfolding drive of256 of512 of128 hard256 floppy512 at heard said ten four fits
-    view_of setting_in present_with medium_of is_floppy is_in ranges_of setting_of setting_by fields_in size_for fitted_to pick block_of copy_of count_of row_for
+    view_of is_travelling setting_in present_with medium_of is_floppy is_in ranges_of setting_of setting_by fields_in size_for fitted_to pick block_of copy_of count_of row_for
     judge_copy judge reach_of judged saying_of filling_of shares in_order hits_of is_unknown block_wrong control_wrong with_params interleave_wrong past_end
     not_spared is_valid size_in bytes_of is_among check_number addressed sense_of
 many = (refl, refl, refl, refl, refl, refl, refl, refl, refl)
@@ -289,7 +328,7 @@ sharing :
     -- the destination's 21h comes before it: 29 to 31 are copied to 30 to 32
     × (fits 3 (at hard 0x20 29) (at hard 0x20 30) ≡ four 0xA1 0x20 0 30)
 unfolding drive of256 of128 hard floppy at heard said ten four fits shared no_address wide
-    view_of setting_in present_with medium_of is_floppy is_in ranges_of setting_of setting_by fields_in size_for fitted_to pick block_of copy_of count_of row_for
+    view_of is_travelling setting_in present_with medium_of is_floppy is_in ranges_of setting_of setting_by fields_in size_for fitted_to pick block_of copy_of count_of row_for
     judge_copy judge reach_of judged saying_of filling_of shares in_order hits_of is_unknown block_wrong control_wrong with_params interleave_wrong past_end
     not_spared is_valid size_in bytes_of is_among check_number addressed sense_of
 sharing = (refl, refl, refl, refl, refl, refl, refl, refl, refl)

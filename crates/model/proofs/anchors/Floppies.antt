@@ -13,13 +13,13 @@ use Rattle.model.specs.Table.{check_number, is_among, row_for}
 use Rattle.model.specs.Checks.{judged, present_with, is_unknown, block_wrong, control_wrong, with_params, interleave_wrong, past_end, not_spared, size_in, bytes_of, reach_of, hits_of, in_order, judge}
 use Rattle.model.specs.Sense.{addressed, sense_of}
 use Rattle.model.specs.Feed.{reset}
-use Rattle.model.specs.Machine.{fresh_disk, fresh_machine, changed, with_sense, with_buffer, with_disk, in_force, becomes, filled, storing, failing_on, providing_on}
+use Rattle.model.specs.Machine.{resting, fresh_disk, fresh_machine, changed, with_sense, with_buffer, with_disk, with_arm, in_force, becomes, filled, storing, failing_on, providing_on}
 use Rattle.model.specs.Machine.{well}
 use Rattle.model.specs.Machine.{is_bad, is_moved, is_taken, denied, paired, parted, parted_by, some_parted, address_given, unassignable}
 use Rattle.model.specs.Machine.{finished, with_first, passing, read_from, write_from, inARow, leaving, transfer_by, transfer}
 use Rattle.model.specs.Machine.{filling_on, filling, from_on, reformatted}
 use Rattle.model.specs.Machine.{format_drive, check_track, format_track, format_bad_track, read, write, assign_to, assign_alternate, is_stored, initialize_by}
-use Rattle.model.specs.Machine.{freely, seeking, on_tracks, on_sectors, with_parameters, carried, setting_with, seen, ordered, restored, step}
+use Rattle.model.specs.Machine.{freely, step_option, towards, sent_to, seeking, on_tracks, on_sectors, with_parameters, at_sector, at_track, rests, armed, carried, setting_with, seen, ordered, restored, step}
 use Rattle.model.specs.Claim.{replies}
 use Rattle.model.proofs.anchors.Session.{Line, told, all_told, says, four, six, sent, senses, lengths_of, Answers}
 
@@ -103,8 +103,8 @@ pub worked : Answers (lengths_of 8464 0 4368 0) lacking × Answers (lengths_of 8
 unfolding told all_told says four six sent senses floppy hard lacking mistaking formatting transferring marking lengths_of Answers pick same_bytes
     medium_of is_floppy is_in ranges_of size_for fitted_to fields_in setting_by setting_of block_of count_of from_buffer row_for present_with judge judged in_order
     hits_of is_unknown block_wrong control_wrong with_params interleave_wrong past_end not_spared is_valid reach_of size_in bytes_of is_among check_number addressed
-    sense_of fresh_disk fresh_machine changed with_sense with_buffer with_disk in_force becomes filled storing failing_on well providing_on is_bad is_moved
+    sense_of resting fresh_disk fresh_machine changed with_sense with_buffer with_disk with_arm in_force becomes filled storing failing_on well providing_on is_bad is_moved
     is_taken denied paired parted parted_by some_parted address_given unassignable finished with_first passing read_from write_from inARow leaving transfer_by
     transfer filling_on filling from_on reformatted format_drive check_track format_track format_bad_track read write assign_to assign_alternate is_stored
-    initialize_by freely seeking on_tracks on_sectors with_parameters carried setting_with seen ordered restored step replies is_whole block_length is_copy
+    initialize_by freely step_option towards sent_to seeking on_tracks on_sectors with_parameters at_sector at_track rests armed carried setting_with seen ordered restored step replies is_whole block_length is_copy
 worked = (refl, refl, refl, refl, refl)

@@ -5,6 +5,7 @@ use mathlib.Core.Path.{◌≡◌, refl}
 use mathlib.Core.Bool.{true}
 use mathlib.Core.List.{List, [], ◌∷◌, ◌++◌}
 use lib.ListN.{replicate}
+use lib.IntN.{pos}
 use Rattle.base.specs.Pick.{pick}
 use Rattle.base.specs.Part.{part, splice, rows}
 use Rattle.base.specs.First.{first_from, first_below, is_some, some_below}
@@ -29,7 +30,7 @@ use Rattle.model.specs.Block.{block_of, from_buffer, keeps, alternate_of}
 use Rattle.model.specs.Checks.{judged}
 use Rattle.model.specs.Record.{blank_drive, drive_at, unless_named}
 use Rattle.model.specs.Commands.{plain_byte, plain_fill, fill_of, made_at, drive_formatted, format_drive, alone_tests}
-use Rattle.model.specs.Commands.{format_track, assign_tests, assigned, missing_in, alternated, assign_alternate, do_track, as_effect, do_disk, carry_out}
+use Rattle.model.specs.Commands.{format_track, assign_tests, assigned, missing_in, alternated, assign_alternate, do_track, as_effect, do_disk, arm_left, carry_out}
 
 p : Params
 p = record { cylinders = 1; heads = 3; sectors = 2; size = 1 }
@@ -43,7 +44,7 @@ other : List ℕ
 other = 11 ∷ 12 ∷ 13 ∷ 14 ∷ 15 ∷ 16 ∷ 17 ∷ 18 ∷ 19 ∷ 20 ∷ []
 
 entry : List ℕ → Drive
-entry bytes = record { sense = replicate 4 0; config = bytes; known = true; pending = true }
+entry bytes = record { sense = replicate 4 0; config = bytes; known = true; pending = true; target = 0; way = pos 0 }
 
 controller : Controller
 controller = record {
@@ -87,7 +88,7 @@ formats :
     × (leaves_on 3 FormatBadTrack 3 0 [] ≡ old 34 ++ slot 0xA1 0 0 1 0 1 0 0 0xE5 ++ slot 0xA1 0 0 1 1 1 0 0 0xE5 ++ old 20)
     × (leaves_on 2 FormatDrive 3 0x20 [] ≡ other ++ replicate 6 0 ++ old 18 ++ slot 0xA1 0 0 1 0 0 0 0 0xE5 ++ slot 0xA1 0 0 1 1 0 0 0 0xE5
     ++ slot 0xA1 0 0 2 0 0 0 0 0xE5 ++ slot 0xA1 0 0 2 1 0 0 0 0xE5 ++ old 2)
-unfolding p config other entry controller leaves_on leaves slot old carry_out do_disk do_track as_effect format_drive format_track assign_alternate assigned
+unfolding p config other entry controller leaves_on leaves slot old carry_out arm_left do_disk do_track as_effect format_drive format_track assign_alternate assigned
     alternated missing_in drive_formatted made_at plain_byte plain_fill fill_of from_buffer keeps medium_of is_floppy block_of alternate_of judged alone_tests assign_tests is_bad is_moved
     is_taken is_taken_by_other unless_named drive_at blank_drive pair_split splits state_of state_by first_id id_in own_id track_bytes slot_id with_track part splice rows formatted
     slots_made slot_made with_sector id_bytes id_for flag_of partner_of sound_from layout_of laid place lay_at empty_from some_below is_some first_below first_from
@@ -114,7 +115,7 @@ interleaved :
     -- both tracks of an assignment
     × (makes AssignAlternate 1 (0 ∷ 0 ∷ 9 ∷ []) ≡ old 16 ++ track_of_lem 0 2 2 ++ old 36 ++ track_of_lem 2 3 0)
     × (makes FormatDrive 5 [] ≡ config ++ replicate 6 0 ++ old 36 ++ track_of_lem 1 0 0 ++ track_of_lem 2 0 0)
-unfolding q config other entry controller makes track_of_lem slot old carry_out do_disk do_track as_effect format_drive format_track assign_alternate assigned
+unfolding q config other entry controller makes track_of_lem slot old carry_out arm_left do_disk do_track as_effect format_drive format_track assign_alternate assigned
     alternated missing_in drive_formatted made_at plain_byte plain_fill fill_of from_buffer keeps medium_of is_floppy block_of alternate_of judged alone_tests assign_tests is_bad is_moved
     is_taken is_taken_by_other unless_named drive_at blank_drive pair_split splits state_of state_by first_id id_in own_id track_bytes slot_id with_track part splice rows formatted
     slots_made slot_made with_sector id_bytes id_for flag_of partner_of sound_from layout_of laid place lay_at empty_from some_below is_some first_below first_from

@@ -6,6 +6,7 @@ use mathlib.Core.Bool.{true, false}
 use mathlib.Core.List.{List, [], ◌∷◌, ◌++◌, map}
 use native.Mathlib.Omega.{arith}
 use lib.ListN.{replicate}
+use lib.IntN.{pos}
 use Rattle.base.specs.Pick.{pick}
 use Rattle.base.specs.Part.{part, splice, rows}
 use Rattle.base.specs.First.{first_from, first_below}
@@ -32,7 +33,8 @@ use Rattle.model.specs.Power.{CutShort}
 use Rattle.model.specs.Records.{one_track, on_tracks}
 use Rattle.model.specs.Sense.{addressed, sense_of}
 use Rattle.model.specs.Record.{sensed, good, failed, unless_named, Effect}
-use Rattle.model.specs.Commands.{plain_byte, plain_fill, fill_of, made_at, assign_tests, missing_in, assigned, alternated, assign_alternate, do_track, as_effect, do_disk, carry_out}
+use Rattle.model.specs.Commands.{plain_byte, plain_fill, fill_of, made_at, assign_tests, missing_in, assigned, alternated, assign_alternate, do_track, as_effect, do_disk, arm_left, carry_out}
+use Rattle.model.specs.Arm.{arrived, last_of, last_done, left_at}
 
 p : Params
 p = record { cylinders = 1; heads = 3; sectors = 3; size = 2 }
@@ -74,7 +76,7 @@ moved = image (of_a 0 2 2 11 12) (of_a 2 2 2 21 22) (of_a 1 2 2 31 32) (of_b 0 3
 
 -- drive 0 with a code in its sense
 controller : Drive
-controller = record { sense = 0x16 ∷ 0 ∷ 0 ∷ 0 ∷ []; config = replicate 10 0; known = true; pending = false }
+controller = record { sense = 0x16 ∷ 0 ∷ 0 ∷ 0 ∷ []; config = replicate 10 0; known = true; pending = false; target = 77; way = pos 0 }
 
 -- Assign Alternate with interleave 2: A at this address, control byte, B at this address, on an image; the buffer has other bytes
 sent : (address control alternate : ℕ) → (image : List ℕ) → Effect
@@ -96,7 +98,7 @@ moves :
     -- a taken track 2 whose partner is track 1 is free for it without keep too: both are formatted
     × (left (sent 3 0 6 half)
     ≡ image (of_a 0 2 2 0x6C 0x6C) (of_a 2 2 2 0x6C 0x6C) (of_a 1 2 2 0x6C 0x6C) (of_b 0 3 1 0x6C 0x6C) (of_b 2 3 1 0x6C 0x6C) (of_b 1 3 1 0x6C 0x6C) ++ (71 ∷ 72 ∷ 73 ∷ []))
-unfolding p slot of_a of_b under image old old_under half moved controller sent left saying layout_of laid place lay_at empty_from carry_out do_disk do_track as_effect assign_alternate assign_tests missing_in alternated assigned
+unfolding p slot of_a of_b under image old old_under half moved controller sent left saying layout_of laid place lay_at empty_from carry_out arm_left left_at last_done last_of arrived do_disk do_track as_effect assign_alternate assign_tests missing_in alternated assigned
     keeps keep_code first_missing code_of kept after_writes after_write write_of write_with made_at plain_byte plain_fill fill_of from_buffer medium_of is_floppy block_of alternate_of judged unless_named
     good failed sensed sense_of addressed is_bad is_moved is_taken is_taken_by_other state_of state_by with_track formatted slots_made slot_made with_sector rows pick splice part
     content_at content_in read_bytes sector_found sector_from sector_in where_of where_by first_id slot_id slot_data track_bytes id_in own_id taken_by slot_used first_below first_from holds
@@ -113,7 +115,7 @@ refused :
     -- slot 0 with another head, with flag 4, with flag 1
     × (map (λ (first : List ℕ). saying (sent 1 0x10 6 (old_under first))) (slot 0xA1 0 0 1 0 0 0 0 1 2 ∷ slot 0xA1 0 0 0 0 4 0 0 1 2 ∷ slot 0xA1 0 0 0 0 1 0 0 1 2 ∷ [])
     ≡ (0 ∷ 2 ∷ 0 ∷ 0 ∷ 0x95 ∷ 0 ∷ 0 ∷ 1 ∷ []) ∷ (0 ∷ 2 ∷ 0 ∷ 0 ∷ 0x90 ∷ 0 ∷ 0 ∷ 1 ∷ []) ∷ (0 ∷ 2 ∷ 0 ∷ 0 ∷ 0x99 ∷ 0 ∷ 0 ∷ 1 ∷ []) ∷ [])
-unfolding p slot of_a of_b under image old old_under half moved controller sent left saying layout_of laid place lay_at empty_from carry_out do_disk do_track as_effect assign_alternate assign_tests missing_in alternated assigned
+unfolding p slot of_a of_b under image old old_under half moved controller sent left saying layout_of laid place lay_at empty_from carry_out arm_left left_at last_done last_of arrived do_disk do_track as_effect assign_alternate assign_tests missing_in alternated assigned
     keeps keep_code first_missing code_of kept after_writes after_write write_of write_with made_at plain_byte plain_fill fill_of from_buffer medium_of is_floppy block_of alternate_of judged unless_named
     good failed sensed sense_of addressed is_bad is_moved is_taken is_taken_by_other state_of state_by with_track formatted slots_made slot_made with_sector rows pick splice part
     content_at content_in read_bytes sector_found sector_from sector_in where_of where_by first_id slot_id slot_data track_bytes id_in own_id taken_by slot_used first_below first_from holds
@@ -125,7 +127,7 @@ block : List ℕ
 block = 0x0E ∷ 0 ∷ 0 ∷ 3 ∷ 2 ∷ 0x10 ∷ []
 
 cuts : CutShort p block (0 ∷ 0 ∷ 6 ∷ []) old half × CutShort p block (0 ∷ 0 ∷ 6 ∷ []) old moved
-unfolding block may_tear new_bytes with_bytes p slot of_a of_b under image old old_under half moved controller sent left saying layout_of laid place lay_at empty_from carry_out do_disk do_track as_effect assign_alternate assign_tests missing_in alternated assigned
+unfolding block may_tear new_bytes with_bytes p slot of_a of_b under image old old_under half moved controller sent left saying layout_of laid place lay_at empty_from carry_out arm_left left_at last_done last_of arrived do_disk do_track as_effect assign_alternate assign_tests missing_in alternated assigned
     keeps keep_code first_missing code_of kept after_writes after_write write_of write_with made_at plain_byte plain_fill fill_of from_buffer medium_of is_floppy block_of alternate_of judged unless_named
     good failed sensed sense_of addressed is_bad is_moved is_taken is_taken_by_other state_of state_by with_track formatted slots_made slot_made with_sector rows pick splice part
     content_at content_in read_bytes sector_found sector_from sector_in where_of where_by first_id slot_id slot_data track_bytes id_in own_id taken_by slot_used first_below first_from holds

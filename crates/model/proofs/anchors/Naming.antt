@@ -1,4 +1,4 @@
--- Request E6: which drives a block names, and which blocks are excluded, by hand.
+-- Request E6: which drives a block names, which calls concern a drive, and which blocks are excluded, by hand.
 use Prim.Native.Nat.{ℕ, zero, suc, ◌*◌}
 use mathlib.Core.Path.{◌≡◌, refl}
 use mathlib.Core.Bool.{true}
@@ -7,7 +7,8 @@ use lib.ListN.{replicate}
 use Rattle.base.specs.Pick.{pick}
 use Rattle.base.specs.Same.{same_bytes}
 use Rattle.model.specs.Block.{is_copy, block_length, is_whole}
-use Rattle.model.specs.Separation.{names, uses_buffer, excluded}
+use Rattle.model.specs.Claim.{Call, Reset, Tick, Report, Command}
+use Rattle.model.specs.Separation.{names, concerns, calls_of, uses_buffer, excluded, may_stand, all_may_stand}
 use Rattle.model.proofs.anchors.Session.{six}
 
 -- the drives below 5 that a block names
@@ -55,6 +56,22 @@ of_no_length :
     × (drives_of (six 0x08 0 0 0 1 0 ++ (0 ∷ 0 ∷ 0 ∷ 0 ∷ [])) ≡ []) × (drives_of (six 0x20 0 0 0 1 0) ≡ []) × (drives_of (copies 0 1 ++ (0 ∷ [])) ≡ [])
 unfolding drives_of copies names six pick is_whole block_length is_copy
 of_no_length = (refl, refl, refl, refl, refl, refl, refl)
+
+-- ---- The calls that concern drive 1: every Reset and every tick where it falls, no report (request E9), and the commands that name it
+of_one : Call
+of_one = Command (six 0x00 0x20 0 0 0 0) (1 ∷ []) (2 ∷ [])
+
+of_two : Call
+of_two = Command (six 0x00 0x40 0 0 0 0) (3 ∷ []) (4 ∷ [])
+
+concerned :
+    (calls_of 1 (Report ∷ Tick ∷ of_two ∷ of_one ∷ Report ∷ Reset ∷ of_two ∷ Tick ∷ Tick ∷ Report ∷ []) ≡ Tick ∷ of_one ∷ Reset ∷ Tick ∷ Tick ∷ [])
+    × (calls_of 2 (Report ∷ Tick ∷ of_two ∷ of_one ∷ Report ∷ Reset ∷ of_two ∷ Tick ∷ Tick ∷ Report ∷ []) ≡ Tick ∷ of_two ∷ Reset ∷ of_two ∷ Tick ∷ Tick ∷ [])
+    × (calls_of 3 (Report ∷ Tick ∷ of_two ∷ of_one ∷ Report ∷ Reset ∷ []) ≡ Tick ∷ Reset ∷ [])
+    -- these may stand in every list
+    × (all_may_stand (λ block. true) (Reset ∷ Tick ∷ Report ∷ []) ≡ true)
+unfolding of_one of_two calls_of concerns names may_stand all_may_stand six pick is_whole block_length is_copy
+concerned = (refl, refl, refl, refl)
 
 -- ---- Of all opcodes, with this control byte, the excluded ones, the highest first. Six bytes that begin with 20h name no drive, so that it
 -- does not matter that they are among them.

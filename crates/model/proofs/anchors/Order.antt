@@ -4,6 +4,7 @@ use mathlib.Core.Path.{◌≡◌, refl}
 use mathlib.Core.Bool.{Bool, true, false}
 use mathlib.Core.List.{List, [], ◌∷◌, ◌++◌, map}
 use lib.ListN.{replicate}
+use lib.IntN.{ℤ, pos, negsuc}
 use Rattle.base.specs.Pick.{pick}
 use Rattle.geometry.specs.declared.params.Lba.{Lba}
 use Rattle.geometry.specs.declared.medium.Medium.{Medium}
@@ -20,17 +21,18 @@ use Rattle.model.specs.Checks.{judged, present_with, is_unknown, block_wrong, co
 use Rattle.model.specs.Sense.{addressed, sense_of}
 use Rattle.model.specs.Feed.{command}
 use Rattle.model.specs.Record.{setting_in, failed, unless_named}
+use Rattle.model.specs.Arm.{is_travelling}
 use Rattle.model.specs.Engine.{view_of, obey, left, on_drive, execute, fresh}
-use Rattle.model.specs.Machine.{fresh_disk, fresh_machine, address_given, setting_with, seen, ordered, step, failing_on, providing_on}
+use Rattle.model.specs.Machine.{resting, fresh_disk, fresh_machine, address_given, setting_with, seen, ordered, step, failing_on, providing_on}
 
--- ---- Drives of one head; known or not, pending or not; the image's length
-drive : Medium → (config : List ℕ) → (known pending : Bool) → (image : ℕ) → View
-drive medium config known pending image =
-    view_of medium (record { sense = replicate 4 0; config = config; known = known; pending = pending }) image
+-- ---- Drives of one head; known or not, pending or not; the arm's way to cylinder 5; the image's length
+drive : Medium → (config : List ℕ) → (known pending : Bool) → (way : ℤ) → (image : ℕ) → View
+drive medium config known pending way image =
+    view_of medium (record { sense = replicate 4 0; config = config; known = known; pending = pending; target = 5; way = way }) image
 
 -- 256 data bytes, 32 sectors a track
 hard : (cylinders : ℕ) → (known pending : Bool) → (image : ℕ) → View
-hard cylinders = drive HardDisk (0 ∷ cylinders ∷ 1 ∷ 0 ∷ 1 ∷ 0 ∷ 0 ∷ 0 ∷ 0 ∷ 0 ∷ [])
+hard cylinders known pending = drive HardDisk (0 ∷ cylinders ∷ 1 ∷ 0 ∷ 1 ∷ 0 ∷ 0 ∷ 0 ∷ 0 ∷ 0 ∷ []) known pending (pos 0)
 
 -- one track, in an image of exactly its length; and pending
 ready : View
@@ -56,9 +58,23 @@ short = hard 1 true true 8463
 absent : View
 absent = hard 1 true true 15
 
+-- the same with step option 3, one track, and its arm on the way: inward, and toward cylinder 0
+leaving : (known pending : Bool) → (way : ℤ) → (image : ℕ) → View
+leaving = drive HardDisk (0 ∷ 1 ∷ 1 ∷ 0x30 ∷ 1 ∷ 0 ∷ 0 ∷ 0 ∷ 0 ∷ 0 ∷ [])
+
+inward : View
+inward = leaving true false (pos 1) 8464
+
+outward : View
+outward = leaving true true (negsuc 0) 8464
+
+-- arrived
+arrived : View
+arrived = leaving true false (pos 0) 8464
+
 -- floppies: 128 data bytes, 16 sectors a track
 floppy : (cylinders : ℕ) → (known pending : Bool) → (image : ℕ) → View
-floppy cylinders = drive Floppy (0 ∷ cylinders ∷ 1 ∷ 1 ∷ 0 ∷ 0 ∷ 0 ∷ 0 ∷ 0 ∷ 0 ∷ [])
+floppy cylinders known pending = drive Floppy (0 ∷ cylinders ∷ 1 ∷ 1 ∷ 0 ∷ 0 ∷ 0 ∷ 0 ∷ 0 ∷ 0 ∷ []) known pending (pos 0)
 
 floppy_ready : View
 floppy_ready = floppy 1 true false 2192
@@ -127,6 +143,21 @@ situations =
     ∷ when pending₁ 0x00 31 1 0x00 0 0 (row 0x00 0x00 0x20 0x03 0x00 0x16 0x16 0x16 0x16 0x20 0x16 0x16 0x20 0x20 0x16 0x02 0x03 0x02 0x20)
     ∷ when pending₂ 0x00 31 1 0x00 0 0 (row 0x00 0x00 0x20 0x03 0x00 0x16 0x16 0x16 0x16 0x20 0x16 0x16 0x20 0x20 0x16 0x02 0x03 0x02 0x20)
     ∷ when pending₂ 0x00 32 1 0x00 0 0 (row 0x00 0x00 0x20 0x03 0x16 0x16 0x16 0x16 0x16 0x20 0x16 0x16 0x20 0x20 0x16 0x02 0x03 0x02 0x20)
+    -- an arm on its way (request E9), inward or outward: 08h, but for 03, 0Fh and 10h; arrived it is none
+    ∷ when inward 0x00 0 1 0x00 512 512 (row 0x08 0x08 0x20 0x00 0x08 0x08 0x08 0x08 0x08 0x20 0x08 0x08 0x20 0x20 0x08 0x00 0x00 0x08 0x20)
+    ∷ when outward 0x00 0 1 0x00 512 512 (row 0x08 0x08 0x20 0x00 0x08 0x08 0x08 0x08 0x08 0x20 0x08 0x08 0x20 0x20 0x08 0x00 0x00 0x08 0x20)
+    ∷ when arrived 0x00 0 1 0x00 512 512 (row 0x00 0x00 0x20 0x00 0x00 0x00 0x00 0x00 0x00 0x20 0x00 0x00 0x20 0x20 0x00 0x00 0x00 0x00 0x20)
+    -- after 22h, 04h and 0Ah, which does not hit 11h
+    ∷ when inward 0x80 0 1 0x00 512 512 (row 0x22 0x22 0x20 0x22 0x22 0x22 0x22 0x22 0x22 0x20 0x22 0x22 0x20 0x20 0x22 0x22 0x22 0x22 0x20)
+    ∷ when outward 0x00 0 1 0x41 512 512 (row 0x08 0x08 0x20 0x00 0x22 0x22 0x22 0x22 0x22 0x20 0x22 0x22 0x20 0x20 0x22 0x00 0x00 0x08 0x20)
+    ∷ when (leaving true true (pos 1) 15) 0x00 32 0 0x00 0 0 (row 0x04 0x04 0x20 0x03 0x04 0x04 0x04 0x04 0x04 0x20 0x04 0x04 0x20 0x20 0x04 0x02 0x03 0x04 0x20)
+    ∷ when (leaving false false (pos 1) 8464) 0x00 32 0 0x00 0 0 (row 0x0A 0x0A 0x20 0x03 0x0A 0x0A 0x0A 0x0A 0x0A 0x20 0x0A 0x0A 0x20 0x20 0x0A 0x02 0x03 0x08 0x20)
+    ∷ when (leaving true true (negsuc 6) 8463) 0x00 32 0 0x00 0 0 (row 0x0A 0x0A 0x20 0x03 0x0A 0x0A 0x0A 0x0A 0x0A 0x20 0x0A 0x0A 0x20 0x20 0x0A 0x02 0x03 0x08 0x20)
+    -- before an interleave of 0, an address past the end, pending, and numbers 2 and 3
+    ∷ when outward 0x00 32 0 0x00 0 0 (row 0x08 0x08 0x20 0x03 0x08 0x08 0x08 0x08 0x08 0x20 0x08 0x08 0x20 0x20 0x08 0x02 0x03 0x08 0x20)
+    ∷ when outward 0x00 32 1 0x00 0 0 (row 0x08 0x08 0x20 0x03 0x08 0x08 0x08 0x08 0x08 0x20 0x08 0x08 0x20 0x20 0x08 0x02 0x03 0x08 0x20)
+    ∷ when outward 0x00 31 1 0x00 0 0 (row 0x08 0x08 0x20 0x03 0x08 0x08 0x08 0x08 0x08 0x20 0x08 0x08 0x20 0x20 0x08 0x02 0x03 0x08 0x20)
+    ∷ when inward 0x00 31 1 0x00 0 0 (row 0x08 0x08 0x20 0x03 0x08 0x08 0x08 0x08 0x08 0x20 0x08 0x08 0x20 0x20 0x08 0x02 0x03 0x08 0x20)
     -- data given one byte short and exact: 3, 10, 256 bytes, and one short of 512
     ∷ when ready 0x00 0 1 0x00 2 512 (row 0x00 0x00 0x20 0x00 0x00 0x00 0x00 0x00 0x00 0x20 0x02 0x00 0x20 0x20 0x02 0x02 0x00 0x02 0x20)
     ∷ when ready 0x00 0 1 0x00 3 512 (row 0x00 0x00 0x20 0x00 0x00 0x00 0x00 0x00 0x00 0x20 0x02 0x00 0x20 0x20 0x00 0x02 0x00 0x02 0x20)
@@ -167,8 +198,8 @@ situations =
     ∷ []
 
 checks : map (λ (s : Situation). map (said s) opcodes) situations ≡ map (λ (s : Situation). s.codes) situations
-unfolding drive hard ready pending₁ pending₂ large unknown short absent floppy floppy_ready floppy_pending floppy_unknown floppy_absent heard row opcodes when said situations
-    view_of setting_in present_with medium_of is_floppy is_in ranges_of setting_of setting_by fields_in size_for fitted_to pick block_of count_of row_for
+unfolding drive hard ready pending₁ pending₂ large unknown short absent leaving inward outward arrived floppy floppy_ready floppy_pending floppy_unknown floppy_absent heard row opcodes when said situations
+    view_of is_travelling setting_in present_with medium_of is_floppy is_in ranges_of setting_of setting_by fields_in size_for fitted_to pick block_of count_of row_for
     judge judged in_order hits_of is_unknown block_wrong control_wrong with_params interleave_wrong past_end not_spared is_valid reach_of size_in bytes_of is_among check_number
 checks = refl
 
@@ -178,7 +209,7 @@ undefined_bits :
     ≡ replicate 7 (row 0x00 0x00 0x20 0x00 0x22 0x22 0x22 0x22 0x22 0x20 0x22 0x22 0x20 0x20 0x22 0x00 0x00 0x00 0x20))
     × (map (λ (control : ℕ). map (said (when ready 0x00 0 1 control 512 512 [])) opcodes) (0x10 ∷ 0x90 ∷ [])
     ≡ replicate 2 (row 0x00 0x00 0x20 0x00 0x22 0x22 0x22 0x22 0x22 0x20 0x22 0x22 0x20 0x20 0x00 0x00 0x00 0x00 0x20))
-unfolding drive hard ready heard row opcodes when said view_of setting_in present_with medium_of is_floppy is_in ranges_of setting_of setting_by fields_in size_for fitted_to pick block_of count_of row_for
+unfolding drive hard ready heard row opcodes when said view_of is_travelling setting_in present_with medium_of is_floppy is_in ranges_of setting_of setting_by fields_in size_for fitted_to pick block_of count_of row_for
     judge judged in_order hits_of is_unknown block_wrong control_wrong with_params interleave_wrong past_end not_spared is_valid reach_of size_in bytes_of is_among check_number
 undefined_bits = (refl, refl)
 
@@ -192,14 +223,14 @@ past_table = refl
 six_bytes :
     (map (λ (n : ℕ). (execute (fresh []) (replicate n 0xFF) [] [] []).outcome.answer.number) (0 ∷ 5 ∷ 6 ∷ 7 ∷ 12 ∷ []) ≡ 1 ∷ 1 ∷ 0 ∷ 1 ∷ 1 ∷ [])
     × (map (λ (n : ℕ). (step (fresh_machine (λ d. 0)) (command (replicate n 0xFF) [] 0)).0.number) (0 ∷ 5 ∷ 6 ∷ 7 ∷ 12 ∷ []) ≡ 1 ∷ 1 ∷ 0 ∷ 1 ∷ 1 ∷ [])
-unfolding execute on_drive left obey unless_named failed fresh step fresh_machine fresh_disk ordered seen setting_with providing_on failing_on view_of
+unfolding execute on_drive left obey unless_named failed fresh step fresh_machine fresh_disk resting ordered seen setting_with providing_on failing_on view_of
     setting_in present_with pick medium_of is_floppy block_of row_for judge judged in_order hits_of is_unknown block_wrong is_whole block_length is_copy
 six_bytes = (refl, refl)
 
 -- 21h has the block's address, also where only the last address is past the end
 block_address : (judge (block_of (0x08 ∷ 0 ∷ 0 ∷ 31 ∷ 2 ∷ 0 ∷ [])) ready 0 512 ≡ Faulty 0x21 (record { 0 = 31 }))
     × (judge (block_of (0x0A ∷ 0x1F ∷ 0xFF ∷ 0xFF ∷ 0 ∷ 0 ∷ [])) ready 0 0 ≡ Faulty 0x21 (record { 0 = 0x1FFFFF }))
-unfolding drive hard ready view_of setting_in present_with medium_of is_floppy is_in ranges_of setting_of setting_by fields_in size_for fitted_to pick block_of count_of row_for
+unfolding drive hard ready view_of is_travelling setting_in present_with medium_of is_floppy is_in ranges_of setting_of setting_by fields_in size_for fitted_to pick block_of count_of row_for
     judge judged in_order hits_of is_unknown block_wrong control_wrong with_params interleave_wrong past_end not_spared is_valid reach_of size_in bytes_of is_among check_number
 block_address = (refl, refl)
 

@@ -5,6 +5,7 @@ use mathlib.Core.Bool.{Bool, true, false}
 use mathlib.Core.Option.{Option, none, some}
 use mathlib.Core.List.{List, [], ◌∷◌, ◌++◌}
 use lib.ListN.{set, drop, replicate}
+use lib.IntN.{pos}
 use Rattle.base.specs.Pick.{pick}
 use Rattle.base.specs.Part.{part, splice}
 use Rattle.base.specs.First.{first_from, first_below, is_some, some_below}
@@ -21,12 +22,13 @@ use Rattle.model.specs.Checks.{judged, reach_of, with_params, control_wrong, int
 use Rattle.model.specs.Sense.{addressed, sense_of}
 use Rattle.model.specs.Record.{blank_drive, drive_at, setting_in, sensed, failed, good, unless_named}
 use Rattle.model.specs.Commands.{drive_formatted, format_drive}
-use Rattle.model.specs.Commands.{initialized, initialized_by, initialize, do_free, do_track, as_effect, do_disk, carry_out}
+use Rattle.model.specs.Commands.{initialized, initialized_by, initialize, do_free, do_track, as_effect, do_disk, arm_left, carry_out}
+use Rattle.model.specs.Arm.{is_travelling}
 use Rattle.model.specs.Engine.{view_of, obey, Result, images_of, image_of, left, on_drive, execute, loaded_by, loaded, fresh}
 use Rattle.model.specs.Feed.{reset, command, Reply}
 use Rattle.model.specs.Machine as plain
-use Rattle.model.specs.Machine.{stateless, Machine, changed, with_sense, with_disk, in_force, failing_on, well, providing_on}
-use Rattle.model.specs.Machine.{some_parted, parted_by, reformatted, is_stored, initialize_by, freely, on_tracks, with_parameters, carried, setting_with, seen, ordered, restored, step}
+use Rattle.model.specs.Machine.{stateless, resting, Machine, changed, with_sense, with_disk, with_arm, in_force, failing_on, well, providing_on}
+use Rattle.model.specs.Machine.{some_parted, parted_by, reformatted, is_stored, initialize_by, freely, on_tracks, with_parameters, armed, carried, setting_with, seen, ordered, restored, step}
 
 -- one cylinder of one track of 32 sectors; bytes 5 and 6 are any, 7 and 8 these
 config : (high low : ℕ) → List ℕ
@@ -48,7 +50,8 @@ zeros : List ℕ
 zeros = replicate 6 0
 
 entry : (config : List ℕ) → (code drive : ℕ) → (pending : Bool) → Drive
-entry bytes code drive pending = record { sense = code ∷ 32 * drive ∷ 0 ∷ 0 ∷ []; config = bytes; known = true; pending = pending }
+entry bytes code drive pending =
+    record { sense = code ∷ 32 * drive ∷ 0 ∷ 0 ∷ []; config = bytes; known = true; pending = pending; target = 0; way = pos 0 }
 
 -- a Reset with one label, then an Initialize of drive d with these bytes and another, and what it leaves of the drive
 sends : (d : ℕ) → (first rest given : List ℕ) → Result
@@ -69,7 +72,8 @@ bound :
     × (leaves 0 zeros (set mistyped 6 0) ≡ entry mistyped 0x22 0 false)
     × (leaves 0 zeros (config 0x9C 0x41) ≡ entry mistyped 0x22 0 false)
     -- nor where the label's six zeros are spoilt, so that it is none
-    × (leaves 0 (set zeros 5 1) mistyped ≡ record { sense = 0x22 ∷ 0 ∷ 0 ∷ 0 ∷ []; config = replicate 10 0; known = false; pending = false })
+    × (leaves 0 (set zeros 5 1) mistyped
+    ≡ record { sense = 0x22 ∷ 0 ∷ 0 ∷ 0 ∷ []; config = replicate 10 0; known = false; pending = false; target = 0; way = pos 0 })
     -- though they are in force
     × (between 0 zeros (set zeros 5 1) mistyped ≡ entry mistyped 0x22 0 false)
     -- at most the cylinder count, which is 1: high byte first
@@ -79,7 +83,7 @@ bound :
     × (leaves 0 zeros (config 1 0) ≡ entry mistyped 0x22 0 false)
     -- a floppy's are free
     × (leaves 2 zeros floppy ≡ entry floppy 0 2 true)
-unfolding config mistyped floppy images zeros entry sends between leaves execute on_drive left obey unless_named view_of image_of carry_out do_free
+unfolding config mistyped floppy images zeros entry sends between leaves execute on_drive left obey unless_named view_of is_travelling image_of carry_out do_free
     initialize initialized_by initialized label_holds is_valid label_setting medium_of is_floppy setting_of setting_by fields_in is_in ranges_of size_for fitted_to
     part same_bytes pick block_of addressed sense_of blank_drive drive_at sensed failed good loaded_by loaded fresh row_for check_number is_among judge judged
     in_order hits_of is_unknown block_wrong present_with bytes_of is_whole block_length is_copy
@@ -96,7 +100,7 @@ rest_left :
     -- and of the label's own bytes
     × ((sends 0 zeros zeros mistyped).outcome.answer ≡ record { number = 0; status = 0; message = 0; sectors = 0; bytes = 0 })
     × ((sends 0 zeros zeros mistyped).images ≡ images zeros)
-unfolding config mistyped images zeros sends execute on_drive left obey unless_named view_of image_of carry_out do_free initialize initialized_by initialized
+unfolding config mistyped images zeros sends execute on_drive left obey unless_named view_of is_travelling image_of carry_out do_free initialize initialized_by initialized
     label_holds is_valid label_setting medium_of is_floppy setting_of setting_by fields_in is_in ranges_of size_for fitted_to part same_bytes pick block_of
     addressed sense_of blank_drive drive_at sensed failed good loaded_by loaded fresh row_for check_number is_among judge judged in_order hits_of is_unknown
     block_wrong present_with bytes_of is_whole block_length is_copy splice
@@ -110,7 +114,7 @@ formats =
 written_again :
     (formats.outcome.answer.status ≡ 0)
     × (part 0 16 (image_of 0 formats.images) ≡ mistyped ++ zeros)
-unfolding config mistyped images zeros formats execute on_drive left obey unless_named view_of image_of carry_out do_disk do_track as_effect format_drive
+unfolding config mistyped images zeros formats execute on_drive left obey unless_named view_of is_travelling image_of carry_out arm_left do_disk do_track as_effect format_drive
     drive_formatted is_valid label_setting medium_of setting_in setting_of setting_by fields_in is_in ranges_of size_for fitted_to part splice same_bytes pick
     block_of drive_at good loaded_by loaded fresh row_for check_number is_among judge judged in_order hits_of is_unknown block_wrong present_with bytes_of is_whole
     block_length is_copy pair_split splits state_of state_by first_id id_in track_bytes slot_id some_below is_some first_below first_from reach_of with_params
@@ -139,6 +143,7 @@ machine = record {
         inter = λ t. 0;
         held = λ a. [];
       };
+  arms = λ d. resting 0;
 }
 
 -- status, what is in force, pending
@@ -166,9 +171,9 @@ alike :
     × (gives 2 floppy ≡ (64, some floppy, true))
     × (remade.0.status ≡ 0)
     × ((remade.1.disks 0).stored ≡ some stored)
-unfolding large stored remade floppy machine stands starts gives step restored in_force ordered seen setting_with providing_on carried freely
-    initialize_by is_stored with_disk with_sense changed well failing_on is_valid medium_of is_floppy setting_of setting_by fields_in is_in ranges_of size_for
+unfolding large stored remade floppy machine stands starts gives step resting restored in_force ordered seen setting_with providing_on carried freely
+    initialize_by is_stored with_disk with_sense with_arm changed well failing_on is_valid medium_of is_floppy setting_of setting_by fields_in is_in ranges_of size_for
     fitted_to same_bytes pick block_of row_for check_number is_among judge judged in_order hits_of is_unknown block_wrong present_with bytes_of is_whole
-    block_length is_copy control_wrong with_params interleave_wrong past_end reach_of with_parameters on_tracks plain.format_drive some_parted parted_by
+    block_length is_copy control_wrong with_params interleave_wrong past_end reach_of armed with_parameters on_tracks plain.format_drive some_parted parted_by
     reformatted
 alike = (refl, refl, refl, refl, refl, refl, refl, refl, refl, refl)

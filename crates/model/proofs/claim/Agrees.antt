@@ -3,7 +3,7 @@ use Prim.Native.Nat.{ℕ, ◌<◌}
 use mathlib.Core.Path.{◌≡◌}
 use mathlib.Core.Bool.{false}
 use mathlib.Core.Option.{Option, none, some}
-use mathlib.Core.List.{List}
+use mathlib.Core.List.{List, []}
 use lib.ListN.{length}
 use Rattle.base.specs.Pick.{pick}
 use Rattle.base.specs.Part.{splice}
@@ -17,7 +17,7 @@ use Rattle.model.specs.declared.record.Controller.{Controller}
 use Rattle.model.specs.Feed.{Reply}
 use Rattle.model.specs.Record.{drive_at, Effect}
 use Rattle.model.specs.Engine.{image_of}
-use Rattle.model.specs.Machine.{Disk, Machine}
+use Rattle.model.specs.Machine.{Disk, Arm, Machine, way_of}
 use Rattle.model.specs.Claim.{System, reply_of}
 use Rattle.model.proofs.claim.Mirrors.{Mirrors}
 
@@ -36,6 +36,11 @@ pub record Drives (medium : Medium) (entry : Drive) (image : List ℕ) (u : Disk
   pub current : u.pending ≡ false → u.force ≡ u.stored
   pub stored : Stored medium u image u.stored
 
+-- Its arm: both go to one cylinder, and the engine's way is what is left of the machine's.
+pub record Arms (entry : Drive) (arm : Arm) : Type 0 where
+  pub goal : entry.target ≡ arm.goal
+  pub way : entry.way ≡ way_of arm
+
 -- The buffer and one drive: all that a command sees.
 pub record InStep (d : ℕ) (entry : Drive) (buffer image : List ℕ) (m : Machine) : Type 0 where
   pub buffered : buffer ≡ m.buffer
@@ -43,18 +48,23 @@ pub record InStep (d : ℕ) (entry : Drive) (buffer image : List ℕ) (m : Machi
   pub sense : entry.sense ≡ m.senses d
   pub four : length entry.sense ≡ 4
   pub drive : Drives (medium_of d) entry image (m.disks d)
+  pub arm : Arms entry (m.arms d)
 
 -- Every drive.
 pub record Agrees (c : Controller) (image : ℕ → List ℕ) (m : Machine) : Type 0 where
   pub four : length c.drives ≡ 4
   pub drives : (d : ℕ) → d < 4 → InStep d (drive_at c d) c.buffer (image d) m
 
+-- Of the machine drive j is as it was.
+abbrev pub Still : (j : ℕ) → (m n : Machine) → Type 0
+Still j m n = (n.senses j ≡ m.senses j) × (n.disks j ≡ m.disks j) × (n.arms j ≡ m.arms j)
+
 -- What a command of drive d leaves in the engine and in the machine, which was m.
 pub record Follows (d : ℕ) (area image : List ℕ) (m : Machine) (e : Effect) (x : Reply × Machine) : Type 0 where
-  pub reply : reply_of e.ending.answer (splice 0 e.handed area) ≡ x.0
+  pub reply : reply_of [] e.ending.answer (splice 0 e.handed area) ≡ x.0
   pub alike : InStep d e.ending.entry e.buffer e.image x.1
   -- the machine's other drives stay
-  pub others : (j : ℕ) → (j ≡ d → ⊥) → (x.1.senses j ≡ m.senses j) × (x.1.disks j ≡ m.disks j)
+  pub others : (j : ℕ) → (j ≡ d → ⊥) → Still j m x.1
   pub len : length e.image ≡ length image
 
 -- What a call leaves in the engine and in the machine: they reply alike, and agree.

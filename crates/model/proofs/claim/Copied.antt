@@ -1,16 +1,16 @@
 -- Copy Blocks: engine and machine reply alike, and agree after it.
-use Prim.Native.Nat.{ℕ, zero, suc, ◌*◌, ◌%◌, ◌≤◌, ◌<◌}
+use Prim.Native.Nat.{ℕ, zero, suc, ◌*◌, ◌%◌, ◌≤◌, ◌<◌, min}
 use mathlib.Core.Path.{◌≡◌, refl, sym, ap, ◌∙◌}
 use mathlib.Core.Bool.{true, false}
 use mathlib.Core.List.{List, [], ◌++◌}
-use native.Mathlib.Omega.{arith}
+use native.Mathlib.Omega.{arith, min_cases}
 use native.Mathlib.Decide.{ℕ_discrete}
 use lib.ListN.{length, replicate}
 use lib.Dec.{eqb}
-use borrow.Author.Tests.{eq-eqb, ne_eqb}
+use borrow.Author.Tests.{eq-eqb, ne_eqb, le-leb, lt-leb}
 use Rattle.base.specs.Pick.{pick}
 use Rattle.base.specs.Part.{splice}
-use Rattle.base.proofs.Decide.{pick_true, pick-false}
+use Rattle.base.proofs.Decide.{pick_true, pick-false, pick-both}
 use Rattle.geometry.specs.declared.params.Lba.{Lba}
 use Rattle.geometry.specs.declared.params.Params.{Params}
 use Rattle.geometry.specs.declared.config.Setting.{Setting}
@@ -24,11 +24,13 @@ use Rattle.copying.specs.declared.route.End.{End}
 use Rattle.copying.specs.declared.route.End.TheVariants.{Going, SourceFault, TargetFault, Short}
 use Rattle.copying.specs.Copying.{Copying, copied}
 use Rattle.copying.specs.Listwise.{read_all, sectors_for, write_all, read_of, Fitting}
-use Rattle.copying.proofs.Laws.{end_by_codes, end_by_codes_lem, read_so_far, copied_listwise, read_long, read_all_lem, read_whole, given_all, copied_target, copied_others}
+use Rattle.copying.proofs.Laws.{end_by_codes, end_by_codes_lem, read_so_far, read_needed, copied_listwise, read_long, read_all_lem, read_whole, given_all, copied_target, copied_others}
 use Rattle.model.specs.declared.block.Block.{Block}
 use Rattle.model.specs.declared.block.CopyBlock.{CopyBlock}
 use Rattle.model.specs.declared.record.Controller.{Controller}
 use Rattle.model.specs.declared.record.Answer.{Answer}
+use Rattle.model.specs.declared.record.CopyArms.{CopyArms}
+use Rattle.model.specs.Feed.{Reply}
 use Rattle.model.specs.declared.verdict.Verdict.{Verdict}
 use Rattle.model.specs.declared.verdict.Verdict.TheVariants.{Faulty, Passed}
 use Rattle.model.specs.declared.verdict.Judgement.{Judgement}
@@ -37,18 +39,20 @@ use Rattle.model.specs.Block.{is_copy, copy_of, count_of}
 use Rattle.model.specs.Checks.{judge_over, filling_of, shares}
 use Rattle.model.specs.Sense.{sense_of}
 use Rattle.model.specs.Record.{drive_at, setting_in, sensed, failed, good, failed_answer, good_answer, unless_named}
-use Rattle.model.specs.Copies.{CopyEffect, copy_effect, route_of, copy_ending, copy_left, copy_with}
-use Rattle.model.specs.Engine.{view_of, image_of, obey_copy, Result, left_by_copy, on_drives}
+use Rattle.model.specs.Arm.{brought, arms_still}
+use Rattle.model.specs.Copies.{CopyEffect, copy_effect, route_of, copy_ending, is_target_fault, arms_of, copy_left, copy_with}
+use Rattle.model.specs.Engine.{view_of, image_of, obey_copy, Result, left_by_copy, arms_brought, on_drives}
 use Rattle.model.specs.Machine.{Disk, Machine, Passage, changed, with_sense, with_buffer, with_disk, failing_on, well, providing_on, read_from, write_from, inARow, leaving}
-use Rattle.model.specs.Machine.{has_passed, sectors_filled, poured, copy_ends, copy_over, copy_by, ordered_copy}
+use Rattle.model.specs.Machine.{seen, has_passed, sectors_filled, poured, copy_ends, lesser, needed_for, copy_moves, copy_armed, copy_over, copy_by, ordered_copy}
 use Rattle.model.specs.Claim.{reply_of, replied}
 use Rattle.model.proofs.engine.Copies.{passed_copies, CopyJudged, copy_fault, copy_pass, judge_copy_by}
 use Rattle.model.proofs.engine.CopyLeaves.{from_copy, to_copy, from_below, to_below, one_drive, copy_drives, copy_own_entry, copy_other_entry}
 use Rattle.model.proofs.claim.Mirrors.{Mirrors}
 use Rattle.model.proofs.claim.Passages.{Ended, all_done, stopped, Together, read_together, read_handed}
 use Rattle.model.proofs.claim.Passages.{write_together, write_mirror, write_keeps, write_only}
-use Rattle.model.proofs.claim.Agrees.{Drives, InStep, Agrees, Answered}
-use Rattle.model.proofs.claim.Ends.{changed_same, changed_other, sense_length, resensed}
+use Rattle.model.proofs.claim.Agrees.{Drives, Arms, InStep, Agrees, Answered}
+use Rattle.model.proofs.claim.Ends.{changed_same, changed_other, sense_length, resensed, arms_sensed}
+use Rattle.model.proofs.claim.Brings.{brought_agrees}
 use Rattle.model.proofs.claim.Current.{InForce, view_same, in_force_lem, mirrored, drive_again}
 
 -- ---- What is done before the sense is set: the buffer, and every drive but for its sense
@@ -57,13 +61,27 @@ record DoneAll (c : Controller) (buffer : List ℕ) (images : List (List ℕ)) (
   whole : length buffer ≡ 512
   drives : (d : ℕ) → d < 4 → Drives (medium_of d) (drive_at c d) (image_of d images) (m.disks d)
   senses : (d : ℕ) → d < 4 → ((drive_at c d).sense ≡ m.senses d) × (length (drive_at c d).sense ≡ 4)
+  arms : (d : ℕ) → d < 4 → Arms (drive_at c d) (m.arms d)
+
+-- ---- The lesser of two counts, by the machine's name and by the library's
+lesser_min : (a b : ℕ) → lesser a b ≡ min a b
+unfolding lesser
+lesser_min a b = min_cases a b (lesser a b ≡ min a b) (λ h e. rw (e, le-leb a b h) (pick_true true a b refl)) (λ h e. by h e (ℕ_discrete a b))
+  where
+    by : b ≤ a → min a b ≡ b → Dec (a ≡ b) → lesser a b ≡ min a b
+    by h e (yes q) = rw (e, q, le-leb b b (omega arith)) (pick_true true b b refl)
+    by h e (no q) = rw (e, lt-leb a b (omega (arith, h, q))) (pick-false false a b refl)
+
+source_not : (code : ℕ) → is_target_fault (SourceFault code) ≡ false
+unfolding is_target_fault
+source_not code = refl
 
 -- ---- Then the sense of the source drive is set alike
 module _ (c : Controller) (four : length c.drives ≡ 4) (area buffer : List ℕ) (images : List (List ℕ)) (m : Machine) (done : DoneAll c buffer images m)
-    (from : ℕ) (there : from < 4) where
+    (from : ℕ) (there : from < 4) (arms : CopyArms) where
   module _ (sense : List ℕ) (long : length sense ≡ 4) (answer : Answer) where
     abbrev e : CopyEffect
-    e = copy_effect (record { entry = sensed sense (drive_at c from); answer = answer }) buffer images
+    e = copy_effect (record { entry = sensed sense (drive_at c from); answer = answer }) arms buffer images
 
     abbrev r : Result
     r = left_by_copy from e c area
@@ -76,6 +94,7 @@ module _ (c : Controller) (four : length c.drives ≡ 4) (area buffer : List ℕ
       sense = sym (changed_same m.senses from sense);
       four = long;
       drive = resensed (medium_of from) sense (drive_at c from) (image_of from images) (m.disks from) (done.drives from there);
+      arm = arms_sensed sense (drive_at c from) (m.arms from) (done.arms from there);
     }
 
     other_step : (d : ℕ) → d < 4 → (d ≡ from → ⊥) → InStep d (drive_at c d) buffer (image_of d images) (with_sense from sense m)
@@ -86,6 +105,7 @@ module _ (c : Controller) (four : length c.drives ≡ 4) (area buffer : List ℕ
       sense = (done.senses d l).0 ∙ sym (changed_other m.senses from sense d ne);
       four = (done.senses d l).1;
       drive = done.drives d l;
+      arm = done.arms d l;
     }
 
     left_parts : (r.outcome.controller.buffer ≡ buffer) × (r.images ≡ images)
@@ -101,7 +121,7 @@ module _ (c : Controller) (four : length c.drives ≡ 4) (area buffer : List ℕ
     sensed_agree = record { four = copy_drives from e c area ∙ four; drives = λ d l. steps d l (ℕ_discrete d from) }
 
   failing_answered : (named code : ℕ) (at : Lba) (sectors : ℕ) (b : Block) → b.drive ≡ from
-      → Answered (replied (left_by_copy from (copy_effect (failed from named code at sectors 0 (drive_at c from)) buffer images) c area))
+      → Answered (replied [] (left_by_copy from (copy_effect (failed from named code at sectors 0 (drive_at c from)) arms buffer images) c area))
       (failing_on named b code at sectors [] m)
   unfolding failed failing_on replied reply_of left_by_copy
   failing_answered named code at sectors b is =
@@ -109,7 +129,7 @@ module _ (c : Controller) (four : length c.drives ≡ 4) (area buffer : List ℕ
       (record { same = refl; agree = sensed_agree (sense_of code named at) (sense_length code named at) (failed_answer from sectors 0) })
 
   well_answered : (sectors : ℕ) (b : Block) → b.drive ≡ from
-      → Answered (replied (left_by_copy from (copy_effect (good from sectors 0 (drive_at c from)) buffer images) c area)) (well b sectors [] m)
+      → Answered (replied [] (left_by_copy from (copy_effect (good from sectors 0 (drive_at c from)) arms buffer images) c area)) (well b sectors [] m)
   unfolding good well replied reply_of left_by_copy
   well_answered sectors b is =
       rw is
@@ -152,9 +172,9 @@ module _ (c : Controller) (images : List (List ℕ)) (m : Machine) (agree : Agre
 
   force_of : (d : ℕ) → d < 4 → (s : Params) → setting_in (medium_of d) (drive_at c d) (length (image_of d images)) ≡ Valid s
       → InForce (medium_of d) (drive_at c d) (image_of d images) (m.disks d) s
-  unfolding view_of
+  unfolding view_of seen
   force_of d l s e =
-      let same = view_same (medium_of d) (drive_at c d) (image_of d images) (m.disks d) (drive_of d l) in
+      let same = view_same (medium_of d) (drive_at c d) (image_of d images) (m.disks d) (drive_of d l) (m.arms d) (agree.drives d l).arm in
       in_force_lem (medium_of d) (drive_at c d) (image_of d images) (m.disks d) (drive_of d l) s (sym (ap (λ (view : View). view.setting) same) ∙ e)
 
   abbrev force : InForce (medium_of k.from.drive) (drive_at c k.from.drive) (image_of k.from.drive images) source p
@@ -256,52 +276,98 @@ module _ (c : Controller) (images : List (List ℕ)) (m : Machine) (agree : Agre
     whole = buffer_whole;
     drives = λ d l. drives_now d l (ℕ_discrete d k.to.drive);
     senses = λ d l. ((agree.drives d l).sense, (agree.drives d l).four);
+    arms = λ d l. (agree.drives d l).arm;
   }
 
   -- ---- the ends
   module _ (area : List ℕ) where
     abbrev Alike : (read done : ℕ) → End → (end read_end : Verdict) → (rest sectors : ℕ) → Type 0
     Alike read done end write-end read_end rest sectors =
-        Answered (replied (left_by_copy k.from.drive (copy_effect (copy_ending k read done end (drive_at c k.from.drive)) buffer now) c area))
+        Answered
+        (replied [] (left_by_copy k.from.drive (copy_effect (copy_ending k read done end (drive_at c k.from.drive)) (arms_of route read done end) buffer now) c area))
         (copy_ends k write-end read_end rest sectors m machine)
 
     target_fault : (read done code : ℕ) (read_end : Verdict) (rest : ℕ)
         → Alike read done (TargetFault code) (Faulty code (further k.to.address done)) read_end rest done
     unfolding copy_ending copy_ends
     target_fault read done code read_end rest =
-        failing_answered c agree.four area buffer now machine done_all k.from.drive from-there k.to.drive code _ done k.from refl
+        failing_answered c agree.four area buffer now machine done_all k.from.drive from-there _ k.to.drive code _ done k.from refl
 
     source_fault : (read done code rest : ℕ) → Alike read done (SourceFault code) Passed (Faulty code (further k.from.address read)) rest done
     unfolding copy_ending copy_ends
     source_fault read done code rest =
-        failing_answered c agree.four area buffer now machine done_all k.from.drive from-there k.from.drive code _ done k.from refl
+        failing_answered c agree.four area buffer now machine done_all k.from.drive from-there _ k.from.drive code _ done k.from refl
 
     rest_alike : (read done rest : ℕ) → Alike read done (pick (eqb rest 0) Going Short) Passed Passed rest done
     unfolding copy_ending copy_ends pick
-    rest_alike read done zero = well_answered c agree.four area buffer now machine done_all k.from.drive from-there done k.from refl
+    rest_alike read done zero = well_answered c agree.four area buffer now machine done_all k.from.drive from-there _ done k.from refl
     rest_alike read done (suc rest) =
         rw (ne_eqb (suc rest) 0 (λ e. omega arith))
-        (failing_answered c agree.four area buffer now machine done_all k.from.drive from-there k.to.drive 0x23 _ done k.from refl)
+        (failing_answered c agree.four area buffer now machine done_all k.from.drive from-there _ k.to.drive 0x23 _ done k.from refl)
+
+    -- ---- then the arms, in the order of time
+    abbrev AlikeArmed : (read done : ℕ) → End → (end read_end : Verdict) → (rest sectors source-sectors : ℕ) → Type 0
+    AlikeArmed read done end write-end read_end rest sectors source-sectors =
+        Answered
+        (replied []
+        (arms_brought (arms_of route read done end)
+        (left_by_copy k.from.drive (copy_effect (copy_ending k read done end (drive_at c k.from.drive)) (arms_of route read done end) buffer now) c area)))
+        (copy_armed write-end k p q source-sectors sectors (copy_ends k write-end read_end rest sectors m machine))
+
+    module _ (x' : Reply × Machine) (r : Result) (before : Answered (replied [] r) x') where
+      -- first the destination's, then the source's
+      faulty_armed : (read done code : ℕ) (at : Lba) (source-sectors : ℕ) → read ≡ needed_for n done p.size q.size
+          → Answered (replied [] (arms_brought (arms_of route read done (TargetFault code)) r)) (copy_armed (Faulty code at) k p q source-sectors done x')
+      unfolding arms_brought arms_of is_target_fault pick copy_armed copy_moves replied reply_of
+      faulty_armed read done code at source-sectors needed = record {
+        same = before.same;
+        agree = rw (← needed)
+            (brought_agrees _ _ _
+            (brought_agrees _ _ _ before.agree k.to.drive to-there q k.to.address done)
+            k.from.drive from-there p k.from.address read);
+      }
+
+      -- first the source's, then the destination's
+      passed_armed : (read done : ℕ) (end : End) → is_target_fault end ≡ false
+          → Answered (replied [] (arms_brought (arms_of route read done end) r)) (copy_armed Passed k p q read done x')
+      unfolding arms_brought arms_of pick copy_armed copy_moves replied reply_of
+      passed_armed read done end other = rw other
+          (record {
+            same = before.same;
+            agree =
+                brought_agrees _ _ _
+                (brought_agrees _ _ _ before.agree k.from.drive from-there p k.from.address read)
+                k.to.drive to-there q k.to.address done;
+          })
+
+    not_target : (rest : ℕ) → is_target_fault (pick (eqb rest 0) Going Short) ≡ false
+    unfolding is_target_fault
+    not_target rest = pick-both (λ (end : End). is_target_fault end ≡ false) (eqb rest 0) Going Short refl refl
 
     -- by how the Write ended, and then the Read
     abbrev rest_of : ℕ
     rest_of = length (inARow y.sectors) % q.size
 
+    needed : (w.code ≡ 0 → ⊥) → read_of route n x w ≡ needed_for n w.done p.size q.size
+    unfolding needed_for
+    needed ne = read_needed route n images fit ne ∙ sym (lesser_min n _)
+
     ended_alike : Ended k.to.address w.done w.code after.end → Ended k.from.address x.done x.code y.end
-        → Alike (read_of route n x w) w.done (end_by_codes route n x w) after.end y.end rest_of (length after.sectors)
+        → AlikeArmed (read_of route n x w) w.done (end_by_codes route n x w) after.end y.end rest_of (length after.sectors) (length y.sectors)
     unfolding end_by_codes
     ended_alike (stopped ne fault) source_end =
         rw (fault, pick-false (eqb w.code 0) _ _ (ne_eqb w.code 0 ne), ← written.done)
-        (target_fault (read_of route n x w) w.done w.code y.end rest_of)
+        (faulty_armed _ _ (target_fault (read_of route n x w) w.done w.code y.end rest_of) _ _ _ _ _ (needed ne))
     ended_alike (all_done e passed) (stopped ne fault) =
-        rw (passed, fault, pick_true (eqb w.code 0) _ _ (eq-eqb w.code 0 e), pick-false (eqb x.code 0) _ _ (ne_eqb x.code 0 ne), read_so_far route n images fit e, ← written.done)
-        (source_fault x.done w.done x.code rest_of)
+        rw (passed, fault, pick_true (eqb w.code 0) _ _ (eq-eqb w.code 0 e), pick-false (eqb x.code 0) _ _ (ne_eqb x.code 0 ne), read_so_far route n images fit e, ← written.done, ← together.done)
+        (passed_armed _ _ (source_fault x.done w.done x.code rest_of) _ _ _ (source_not x.code))
     ended_alike (all_done e passed) (all_done e' passed') =
         let bytes : length (inARow y.sectors) ≡ n * p.size = read_bytes_lem ∙ ap (λ (i : ℕ). i * p.size) (all_read e') in
-        rw (passed, passed', pick_true (eqb w.code 0) _ _ (eq-eqb w.code 0 e), pick_true (eqb x.code 0) _ _ (eq-eqb x.code 0 e'), bytes, ← written.done)
-        (rest_alike (read_of route n x w) w.done (n * p.size % q.size))
+        rw (passed, passed', pick_true (eqb w.code 0) _ _ (eq-eqb w.code 0 e), pick_true (eqb x.code 0) _ _ (eq-eqb x.code 0 e'), bytes, read_so_far route n images fit e, ← written.done, ← together.done)
+        (passed_armed _ _ (rest_alike x.done w.done (n * p.size % q.size)) _ _ _ (not_target (n * p.size % q.size)))
 
-    copy_alike : Answered (replied (left_by_copy k.from.drive (copy_left k (drive_at c k.from.drive) c.buffer (copied route n images)) c area)) (copy_over k p q m)
+    copy_alike : let e = copy_left k route (drive_at c k.from.drive) c.buffer (copied route n images) in
+        Answered (replied [] (arms_brought e.arms (left_by_copy k.from.drive e c area))) (copy_over k p q m)
     unfolding copy_left copy_over
     copy_alike =
         let is = copied_listwise route n images fit in
@@ -330,13 +396,18 @@ module _ (c : Controller) (area : List ℕ) (images : List (List ℕ)) (m : Mach
     whole = (agree.drives from (from_below block)).whole;
     drives = λ d l. (agree.drives d l).drive;
     senses = λ d l. ((agree.drives d l).sense, (agree.drives d l).four);
+    arms = λ d l. (agree.drives d l).arm;
   }
 
+  abbrev left : CopyEffect → Result
+  left e = arms_brought e.arms (left_by_copy from e c area)
+
   fault_answered : (named code : ℕ) (at : Lba)
-      → Answered (replied (left_by_copy from (copy_effect (failed from named code at 0 0 (drive_at c from)) c.buffer images) c area))
+      → Answered (replied [] (left (copy_effect (failed from named code at 0 0 (drive_at c from)) arms_still c.buffer images)))
       (failing_on named k.from code at 0 [] m)
+  unfolding arms_brought brought arms_still pick
   fault_answered named code at =
-      failing_answered c agree.four area c.buffer images m none_done from (from_below block) named code at 0 k.from refl
+      failing_answered c agree.four area c.buffer images m none_done from (from_below block) arms_still named code at 0 k.from refl
 
   abbrev seen_from : View
   seen_from = view_of (medium_of from) (drive_at c from) (length (image_of from images))
@@ -348,7 +419,7 @@ module _ (c : Controller) (area : List ℕ) (images : List (List ℕ)) (m : Mach
       → setting_in (medium_of to) (drive_at c to) (length (image_of to images)) ≡ t
       → judge_over k.from (count_of k.from) seen_from 0 0 ≡ Passed → judge_over k.to (filling_of (count_of k.from) s t) seen_to 0 0 ≡ Passed
       → shares k (count_of k.from) (filling_of (count_of k.from) s t) ≡ false
-      → Answered (replied (left_by_copy from (copy_with k s t (drive_at c from) c.buffer images) c area)) (copy_by k s t m)
+      → Answered (replied [] (left (copy_with k s t (drive_at c from) c.buffer images))) (copy_by k s t m)
   unfolding copy_with copy_by filling_of
   passed_answered Invalid t es et one two three = fault_answered from 0x0A k.from.address
   passed_answered (Valid p) Invalid es et one two three = fault_answered to 0x0A k.to.address
@@ -360,20 +431,19 @@ module _ (c : Controller) (area : List ℕ) (images : List (List ℕ)) (m : Mach
 
   judged_answered : {said : Judgement} → CopyJudged k seen_from seen_to said
       → Answered
-      (replied
-      (left_by_copy from
-      (unless_named said.verdict from said.named (drive_at c from) (λ e. copy_effect e c.buffer images)
-      (copy_with k seen_from.setting seen_to.setting (drive_at c from) c.buffer images))
-      c area))
+      (replied []
+      (left
+      (unless_named said.verdict from said.named (drive_at c from) (λ e. copy_effect e arms_still c.buffer images)
+      (copy_with k seen_from.setting seen_to.setting (drive_at c from) c.buffer images))))
       (providing_on said.named said.verdict k.from m (copy_by k seen_from.setting seen_to.setting m))
   unfolding unless_named providing_on view_of
   judged_answered (copy_fault named code at some) = fault_answered named code at
   judged_answered (copy_pass named one two three) = passed_answered _ _ refl refl one two three
 
   -- the checks see one view of each drive
-  pub copy_executes : Answered (replied (on_drives k c area images)) (ordered_copy k m)
+  pub copy_executes : Answered (replied [] (on_drives k c area images)) (ordered_copy k m)
   unfolding on_drives obey_copy ordered_copy
   copy_executes =
-      let source = view_same (medium_of from) (drive_at c from) (image_of from images) (m.disks from) (agree.drives from (from_below block)).drive in
-      let target = view_same (medium_of to) (drive_at c to) (image_of to images) (m.disks to) (agree.drives to (to_below block)).drive in
+      let source = view_same (medium_of from) (drive_at c from) (image_of from images) (m.disks from) (agree.drives from (from_below block)).drive (m.arms from) (agree.drives from (from_below block)).arm in
+      let target = view_same (medium_of to) (drive_at c to) (image_of to images) (m.disks to) (agree.drives to (to_below block)).drive (m.arms to) (agree.drives to (to_below block)).arm in
       rw (← source, ← target) (judged_answered (judge_copy_by k seen_from seen_to (from_copy block copy) (to_copy block copy)))

@@ -2,11 +2,12 @@
 -- pending is what is stored.
 use Prim.Native.Nat.{ℕ, ◌≤◌}
 use mathlib.Core.Path.{◌≡◌, refl, sym, ap, subst, ◌∙◌}
-use mathlib.Core.Bool.{Bool, true, false}
+use mathlib.Core.Bool.{Bool, true, false, not}
 use mathlib.Core.Option.{Option, none, some}
 use mathlib.Core.List.{List}
 use native.Mathlib.Omega.{arith}
 use lib.ListN.{length}
+use lib.Dec.{eqb}
 use Rattle.base.specs.Pick.{pick}
 use Rattle.geometry.specs.declared.params.Params.{Params}
 use Rattle.geometry.specs.declared.medium.Medium.{Medium}
@@ -17,11 +18,13 @@ use Rattle.geometry.proofs.Settings.{setting_within}
 use Rattle.model.specs.declared.record.Drive.{Drive}
 use Rattle.model.specs.Record.{setting_in}
 use Rattle.model.specs.Engine.{view_of}
-use Rattle.model.specs.Machine.{Disk, in_force, setting_with, seen}
+use Rattle.model.specs.Machine.{Disk, Arm, in_force, setting_with, seen, way_of}
+use Rattle.model.specs.Arm.{is_travelling}
 use Rattle.model.proofs.engine.Known.{known_valid}
+use Rattle.model.proofs.engine.Ways.{travels}
 use Rattle.model.proofs.claim.Mirrors.{Mirrors, KeepsLabel}
 use Rattle.model.proofs.claim.Passages.{OnlyHeld}
-use Rattle.model.proofs.claim.Agrees.{Stored, nothing, something, Drives}
+use Rattle.model.proofs.claim.Agrees.{Stored, nothing, something, Drives, Arms}
 
 -- ---- one view
 setting_by_lem : (medium : Medium) (known : Bool) (config : List ℕ) (len : ℕ)
@@ -35,9 +38,13 @@ module _ (medium : Medium) (entry : Drive) (image : List ℕ) (u : Disk) (drive 
   unfolding setting_in
   setting_same = rw (drive.force, drive.len) (sym (setting_by_lem medium entry.known entry.config (length image)))
 
-  pub view_same : view_of medium entry (length image) ≡ seen medium u
+  travelling_same : (arm : Arm) → Arms entry arm → is_travelling entry.way ≡ not (eqb arm.at arm.goal)
+  unfolding way_of
+  travelling_same arm arms = rw arms.way (travels arm.goal arm.at)
+
+  pub view_same : (arm : Arm) → Arms entry arm → view_of medium entry (length image) ≡ seen medium u arm
   unfolding view_of seen
-  view_same = rw (setting_same, drive.pending, drive.len)
+  view_same arm arms = rw (setting_same, drive.pending, drive.len, travelling_same arm arms)
 
 -- ---- parameters in force
 pub record InForce (medium : Medium) (entry : Drive) (image : List ℕ) (u : Disk) (p : Params) : Type 0 where
@@ -70,8 +77,8 @@ module _ (medium : Medium) (u : Disk) (image config : List ℕ) (p : Params) (se
       (label_same medium image after keeps ∙ i ∙ sym s ∙ valid) mirror
 
 module _ (medium : Medium) (entry : Drive) (image : List ℕ) (u : Disk) (drive : Drives medium entry image u) (p : Params) where
-  pub in_force_lem : (seen medium u).setting ≡ Valid p → InForce medium entry image u p
-  unfolding seen setting_in
+  pub in_force_lem : setting_with medium u.force u.len ≡ Valid p → InForce medium entry image u p
+  unfolding setting_in
   in_force_lem e =
       let k = known_valid medium entry.known entry.config (length image) p (setting_same medium entry image u drive ∙ e) in
       let w = setting_within medium entry.config (length image) p k.1 in

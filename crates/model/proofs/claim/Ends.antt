@@ -21,9 +21,9 @@ use Rattle.model.specs.Sense.{addressed, sense_of}
 use Rattle.model.specs.Record.{sensed, refused, failed, good, unless, Effect, effect, Made, made, unless_named}
 use Rattle.model.specs.Commands.{as_effect}
 use Rattle.model.specs.Feed.{Reply, bare}
-use Rattle.model.specs.Machine.{Disk, Machine, changed, with_sense, with_buffer, with_disk, failing, well, providing, failing_on, providing_on}
+use Rattle.model.specs.Machine.{Disk, Arm, Machine, changed, with_sense, with_buffer, with_disk, with_arm, failing, well, providing, failing_on, providing_on}
 use Rattle.model.specs.Claim.{reply_of}
-use Rattle.model.proofs.claim.Agrees.{Drives, InStep, Follows}
+use Rattle.model.proofs.claim.Agrees.{Drives, Arms, InStep, Still, Follows}
 
 -- ---- one test for both
 module _ {ℓ} {A B : Type ℓ} (P : A → B → Type 0) where
@@ -58,43 +58,84 @@ unfolding sensed
 resensed medium sense entry image u o =
     record { len = o.len; force = o.force; pending = o.pending; current = o.current; stored = o.stored }
 
+pub arms_sensed : (sense : List ℕ) (entry : Drive) (arm : Arm) → Arms entry arm → Arms (sensed sense entry) arm
+unfolding sensed
+arms_sensed sense entry arm a = record { goal = a.goal; way = a.way }
+
 -- ---- what a command has done before its sense is set: engine and machine, which was m and is now n
 pub record Done (d : ℕ) (image : List ℕ) (m : Machine) (entry : Drive) (buffer after : List ℕ) (n : Machine) : Type 0 where
   pub buffered : buffer ≡ n.buffer
   pub whole : length buffer ≡ 512
   pub drive : Drives (medium_of d) entry after (n.disks d)
-  pub others : (j : ℕ) → (j ≡ d → ⊥) → (n.senses j ≡ m.senses j) × (n.disks j ≡ m.disks j)
+  pub arm : Arms entry (n.arms d)
+  pub others : (j : ℕ) → (j ≡ d → ⊥) → Still j m n
   pub len : length after ≡ length image
 
 module _ (d : ℕ) (entry : Drive) (buffer image : List ℕ) (m : Machine) (alike : InStep d entry buffer image m) where
   pub done_nothing : Done d image m entry buffer image m
   done_nothing =
-      record { buffered = alike.buffered; whole = alike.whole; drive = alike.drive; others = λ j ne. (refl, refl); len = refl }
+      record {
+        buffered = alike.buffered;
+        whole = alike.whole;
+        drive = alike.drive;
+        arm = alike.arm;
+        others = λ j ne. (refl, refl, refl);
+        len = refl;
+      }
 
   pub done_buffer : (x y : List ℕ) → x ≡ y → length x ≡ 512 → Done d image m entry x image (with_buffer y m)
   unfolding with_buffer
-  done_buffer x y e l = record { buffered = e; whole = l; drive = alike.drive; others = λ j ne. (refl, refl); len = refl }
+  done_buffer x y e l =
+      record { buffered = e; whole = l; drive = alike.drive; arm = alike.arm; others = λ j ne. (refl, refl, refl); len = refl }
+
+  -- the arm alone
+  pub done_arm : (other : Drive) (arm : Arm) → Drives (medium_of d) other image (m.disks d) → Arms other arm
+      → Done d image m other buffer image (with_arm d arm m)
+  unfolding with_arm
+  done_arm other arm drive moved = record {
+    buffered = alike.buffered;
+    whole = alike.whole;
+    drive = drive;
+    arm = rw (changed_same m.arms d arm) moved;
+    others = λ j ne. (refl, refl, changed_other m.arms d arm j ne);
+    len = refl;
+  }
 
   module _ (other : Drive) (after : List ℕ) (u : Disk) (new : Drives (medium_of d) other after u) (len : length after ≡ length image) where
-    pub done_drive : Done d image m other buffer after (with_disk d u m)
-    unfolding with_disk
-    done_drive = record {
+    -- the drive and its arm
+    pub done_moved : (arm : Arm) → Arms other arm → Done d image m other buffer after (with_arm d arm (with_disk d u m))
+    unfolding with_disk with_arm
+    done_moved arm moved = record {
       buffered = alike.buffered;
       whole = alike.whole;
       drive = rw (changed_same m.disks d u) new;
-      others = λ j ne. (refl, changed_other m.disks d u j ne);
+      arm = rw (changed_same m.arms d arm) moved;
+      others = λ j ne. (refl, changed_other m.disks d u j ne, changed_other m.arms d arm j ne);
       len = len;
     }
 
-    pub done_both : (x y : List ℕ) → x ≡ y → length x ≡ 512 → Done d image m other x after (with_disk d u (with_buffer y m))
-    unfolding with_disk with_buffer
-    done_both x y e l = record {
-      buffered = e;
-      whole = l;
-      drive = rw (changed_same m.disks d u) new;
-      others = λ j ne. (refl, changed_other m.disks d u j ne);
-      len = len;
-    }
+    module _ (still : Arms other (m.arms d)) where
+      pub done_drive : Done d image m other buffer after (with_disk d u m)
+      unfolding with_disk
+      done_drive = record {
+        buffered = alike.buffered;
+        whole = alike.whole;
+        drive = rw (changed_same m.disks d u) new;
+        arm = still;
+        others = λ j ne. (refl, changed_other m.disks d u j ne, refl);
+        len = len;
+      }
+
+      pub done_both : (x y : List ℕ) → x ≡ y → length x ≡ 512 → Done d image m other x after (with_disk d u (with_buffer y m))
+      unfolding with_disk with_buffer
+      done_both x y e l = record {
+        buffered = e;
+        whole = l;
+        drive = rw (changed_same m.disks d u) new;
+        arm = still;
+        others = λ j ne. (refl, changed_other m.disks d u j ne, refl);
+        len = len;
+      }
 
 -- ---- the three ways in which a command ends
 module _ (b : Block) (area image : List ℕ) (m : Machine) where
@@ -110,12 +151,12 @@ module _ (b : Block) (area image : List ℕ) (m : Machine) where
       sense = rw (changed_same n.senses b.drive sense);
       four = four;
       drive = resensed _ sense entry after (n.disks b.drive) done.drive;
+      arm = arms_sensed sense entry (n.arms b.drive) done.arm;
     }
 
-    others_sensed : (sense : List ℕ) (j : ℕ) → (j ≡ b.drive → ⊥)
-        → ((with_sense b.drive sense n).senses j ≡ m.senses j) × ((with_sense b.drive sense n).disks j ≡ m.disks j)
+    others_sensed : (sense : List ℕ) (j : ℕ) → (j ≡ b.drive → ⊥) → Still j m (with_sense b.drive sense n)
     unfolding with_sense
-    others_sensed sense j ne = let o = done.others j ne in (rw (changed_other n.senses b.drive sense j ne) o.0, o.1)
+    others_sensed sense j ne = let o = done.others j ne in (rw (changed_other n.senses b.drive sense j ne) o.0, o.1, o.2)
 
     pub well_follows : Follows b.drive area image m (effect (good b.drive sectors (length handed) entry) buffer handed after) (well b sectors handed n)
     unfolding good well reply_of
@@ -140,7 +181,7 @@ module _ (b : Block) (area image : List ℕ) (m : Machine) where
   module _ (entry : Drive) (buffer : List ℕ) (alike : InStep b.drive entry buffer image m) where
     refused_follows : (number : ℕ) → Follows b.drive area image m (effect (refused number entry) buffer [] image) (bare number, m)
     unfolding refused reply_of
-    refused_follows number = record { reply = refl; alike = alike; others = λ j ne. (refl, refl); len = refl }
+    refused_follows number = record { reply = refl; alike = alike; others = λ j ne. (refl, refl, refl); len = refl }
 
     -- where nothing but the sense changes
     pub done_follows : Follows b.drive area image m (effect (good b.drive 0 0 entry) buffer [] image) (well b 0 [] m)

@@ -138,7 +138,7 @@ module _ (b : Block) (area : List ℕ) (entry : Drive) (buffer image : List ℕ)
   remade_follows v after same made =
       well_follows b area image m entry buffer after (with_disk b.drive v m)
       (done_drive _ entry buffer image m alike entry after v
-      (drive_again _ _ _ _ alike.drive p force calm v after same made.keeps made.mirror) made.keeps.len) 0 []
+      (drive_again _ _ _ _ alike.drive p force calm v after same made.keeps made.mirror) made.keeps.len alike.arm) 0 []
 
   module _ (ours : (track_of p b.address).0 < track_count p) (inter : (0 < b.extra) × (b.extra < p.sectors)) where
     pub check_follows : Follows b.drive area image m (as_effect buffer (made (check_on b p entry image) image)) (check_track b p m (m.disks b.drive))

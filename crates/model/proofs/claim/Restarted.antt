@@ -5,6 +5,7 @@ use mathlib.Core.Bool.{true, false}
 use mathlib.Core.Option.{Option, none, some}
 use mathlib.Core.List.{List}
 use lib.ListN.{length, replicate, length-replicate}
+use lib.IntN.{pos}
 use Rattle.base.specs.Pick.{pick}
 use Rattle.geometry.specs.declared.params.Params.{Params}
 use Rattle.geometry.specs.declared.config.Setting.TheVariants.{Valid, Invalid}
@@ -14,10 +15,10 @@ use Rattle.model.specs.declared.record.Controller.{Controller}
 use Rattle.model.specs.Feed.{reset}
 use Rattle.model.specs.Record.{blank_drive, drive_at}
 use Rattle.model.specs.Engine.{image_of, loaded_by, loaded, fresh}
-use Rattle.model.specs.Machine.{Disk, Machine, fresh_disk, fresh_machine, in_force, restored, step}
+use Rattle.model.specs.Machine.{Disk, Machine, resting, way_of, fresh_disk, fresh_machine, in_force, restored, step}
 use Rattle.model.specs.Claim.{begin_machine}
 use Rattle.model.proofs.engine.Assembled.{fresh_drive}
-use Rattle.model.proofs.claim.Agrees.{Stored, nothing, something, Drives, InStep, Agrees}
+use Rattle.model.proofs.claim.Agrees.{Stored, nothing, something, Drives, Arms, InStep, Agrees}
 use Rattle.model.proofs.claim.Current.{stored_forced}
 use Rattle.model.specs.Block.{is_whole, block_length, is_copy}
 
@@ -27,7 +28,7 @@ unfolding loaded loaded_by
 loaded_blank drive image e = rw e
 
 pub loaded_known : (drive : ℕ) (image : List ℕ) (p : Params) → label_setting (medium_of drive) image ≡ Valid p
-    → loaded drive image ≡ record { sense = replicate 4 0; config = label_config image; known = true; pending = false }
+    → loaded drive image ≡ record { sense = replicate 4 0; config = label_config image; known = true; pending = false; target = 0; way = pos 0 }
 unfolding loaded loaded_by
 loaded_known drive image p e = rw e
 
@@ -35,10 +36,10 @@ loaded_known drive image p e = rw e
 module _ (drive : ℕ) (u : Disk) (image : List ℕ) (len : u.len ≡ length image) where
   from_stored : {o : Option (List ℕ)} → Stored (medium_of drive) u image o → u.stored ≡ o
       → (u.stored ≡ pick (loaded drive image).known (some (loaded drive image).config) none) × ((loaded drive image).pending ≡ false)
-      × ((loaded drive image).sense ≡ replicate 4 0)
-  unfolding pick blank_drive
-  from_stored (nothing i) e = rw (loaded_blank drive image i) (e, refl, refl)
-  from_stored (something config p s l i mirror) e = rw (loaded_known drive image p i) (e ∙ ap {B = Option (List ℕ)} some (sym l), refl, refl)
+      × ((loaded drive image).sense ≡ replicate 4 0) × Arms (loaded drive image) (resting 0)
+  unfolding pick blank_drive resting way_of
+  from_stored (nothing i) e = rw (loaded_blank drive image i) (e, refl, refl, record { goal = refl; way = refl })
+  from_stored (something config p s l i mirror) e = rw (loaded_known drive image p i) (e ∙ ap {B = Option (List ℕ)} some (sym l), refl, refl, record { goal = refl; way = refl })
 
   pub drive_restored : Stored (medium_of drive) u image u.stored → Drives (medium_of drive) (loaded drive image) image (restored u)
   unfolding restored in_force
@@ -54,6 +55,9 @@ module _ (drive : ℕ) (u : Disk) (image : List ℕ) (len : u.len ≡ length ima
 
   loaded_sense : Stored (medium_of drive) u image u.stored → (loaded drive image).sense ≡ replicate 4 0
   loaded_sense stored = (from_stored stored refl).2
+
+  loaded_arm : Stored (medium_of drive) u image u.stored → Arms (loaded drive image) (resting 0)
+  loaded_arm stored = (from_stored stored refl).3
 
 -- ---- the whole controller
 module _ (images : List (List ℕ)) (m : Machine) where
@@ -72,6 +76,7 @@ module _ (images : List (List ℕ)) (m : Machine) where
             sense = zero-sense;
             four = ap length zero-sense;
             drive = drive_restored d (m.disks d) (image_of d images) (len d h) (stored d h);
+            arm = loaded_arm d (m.disks d) (image_of d images) (len d h) (stored d h);
           })
 
   pub agree_reset : (c : Controller) → Agrees c (λ d. image_of d images) m → Agrees (fresh images) (λ d. image_of d images) (step m reset).1

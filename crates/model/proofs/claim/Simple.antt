@@ -1,7 +1,7 @@
 -- The commands that need no parameters: Request Sense, the buffer's, Initialize.
 use Prim.Native.Nat.{ℕ, ◌≤◌}
 use mathlib.Core.Path.{◌≡◌, refl, sym, ap, subst, ◌∙◌}
-use mathlib.Core.Bool.{Bool, true, not, ◌||◌, false≢true}
+use mathlib.Core.Bool.{Bool, true, false, not, false≢true}
 use mathlib.Core.Option.{Option, none, some}
 use mathlib.Core.List.{List, []}
 use native.Mathlib.Omega.{arith}
@@ -19,14 +19,12 @@ use Rattle.geometry.proofs.Labels.{holds_none, holds_same}
 use Rattle.model.specs.declared.block.Block.{Block}
 use Rattle.model.specs.declared.table.FreeCommand.TheVariants.{RequestSense, WriteBuffer, ReadBuffer, Initialize}
 use Rattle.model.specs.declared.record.Drive.{Drive}
-use Rattle.model.specs.declared.record.Ending.{Ending}
-use Rattle.model.specs.Feed.{Reply}
 use Rattle.model.specs.Record.{effect}
 use Rattle.model.specs.Commands.{initialized, initialized_by, initialize, do_free}
-use Rattle.model.specs.Machine.{Disk, Machine, with_buffer, in_force, well, is_stored, initialize_by, freely}
+use Rattle.model.specs.Machine.{Disk, Arm, Machine, resting, way_of, with_buffer, in_force, well, is_stored, initialize_by, freely}
 use Rattle.model.specs.Claim.{reply_of}
-use Rattle.model.proofs.claim.Agrees.{Stored, nothing, something, Drives, InStep, Follows}
-use Rattle.model.proofs.claim.Ends.{pick_both_by, front, done_nothing, done_buffer, done_drive, well_follows, fault_follows}
+use Rattle.model.proofs.claim.Agrees.{Stored, nothing, something, Drives, Arms, InStep, Follows}
+use Rattle.model.proofs.claim.Ends.{front, done_nothing, done_buffer, done_drive, done_moved, well_follows, fault_follows}
 use Rattle.model.proofs.claim.Current.{stored_forced}
 
 -- a valid label holds what is stored, and nothing else
@@ -53,13 +51,22 @@ drive_initialized medium config held entry image u drive same = record {
   stored = stored_forced medium u image (some config) _ drive.stored;
 }
 
+-- the label's own leave the arm, others put it at cylinder 0
+arms_held : (config : List ℕ) (entry : Drive) (arm : Arm) → Arms entry arm → Arms (initialized config false entry) arm
+unfolding initialized pick
+arms_held config entry arm arms = record { goal = arms.goal; way = arms.way }
+
+arms_pending : (config : List ℕ) (entry : Drive) → Arms (initialized config true entry) (resting 0)
+unfolding initialized pick resting way_of
+arms_pending config entry = record { goal = refl; way = refl }
+
 module _ (b : Block) (given area : List ℕ) (entry : Drive) (buffer image : List ℕ) (m : Machine) (alike : InStep b.drive entry buffer image m) where
   pub sense_follows : Follows b.drive area image m (do_free b given entry buffer image RequestSense) ((well b 0 (m.senses b.drive) m).0, m)
   unfolding do_free well reply_of
   sense_follows = record {
     reply = rw (alike.sense, front (m.senses b.drive) area);
     alike = alike;
-    others = λ j ne. (refl, refl);
+    others = λ j ne. (refl, refl, refl);
     len = refl;
   }
 
@@ -79,14 +86,17 @@ module _ (b : Block) (given area : List ℕ) (entry : Drive) (buffer image : Lis
   initialized_follows : (held fits : Bool) (config : List ℕ) → held ≡ is_stored (m.disks b.drive).stored config
       → Follows b.drive area image m (effect (initialized_by held fits b config entry) buffer [] image)
       (initialize_by held fits b config m (m.disks b.drive))
-  unfolding initialized_by initialize_by
-  initialized_follows held fits config same =
-      pick_both_by (λ (ending : Ending) (x : Reply × Machine). Follows b.drive area image m (effect ending buffer [] image) x) (held || fits)
-      (λ taken.
+  unfolding initialized_by initialize_by pick
+  initialized_follows true fits config same =
       well_follows b area image m _ buffer image _
       (done_drive _ entry buffer image m alike _ image _
-      (drive_initialized _ config held entry image (m.disks b.drive) alike.drive same) refl) 0 [])
-      (λ refused. fault_follows b area image m entry buffer alike 0x22 b.address)
+      (drive_initialized _ config true entry image (m.disks b.drive) alike.drive same) refl
+      (arms_held config entry (m.arms b.drive) alike.arm)) 0 []
+  initialized_follows false true config same =
+      well_follows b area image m _ buffer image _
+      (done_moved _ entry buffer image m alike _ image _
+      (drive_initialized _ config false entry image (m.disks b.drive) alike.drive same) refl (resting 0) (arms_pending config entry)) 0 []
+  initialized_follows false false config same = fault_follows b area image m entry buffer alike 0x22 b.address
 
   pub initialize_follows : Follows b.drive area image m (do_free b given entry buffer image Initialize) (freely b given m (m.disks b.drive) Initialize)
   unfolding do_free initialize part freely

@@ -32,7 +32,7 @@ module _ (b : Block) (area : List ℕ) (entry : Drive) (buffer image : List ℕ)
         (with_disk b.drive y.disk (with_buffer (leaving y.sectors m.buffer) m))
     done =
         let room : p.size ≤ length buffer = omega (arith, w.size_most, alike.whole) in
-        done_both _ entry buffer image m alike entry x.image y.disk drive len (splice 0 x.last buffer) (leaving y.sectors m.buffer)
+        done_both _ entry buffer image m alike entry x.image y.disk drive len alike.arm (splice 0 x.last buffer) (leaving y.sectors m.buffer)
         (together.buffer buffer room ∙ ap (leaving y.sectors) alike.buffered) (together.room buffer room ∙ alike.whole)
 
     transfer_follows : Follows b.drive area image m (transferred b entry buffer x) (transfer b y x.handed m)

@@ -21,12 +21,12 @@ use Rattle.model.specs.declared.block.Block.{Block}
 use Rattle.model.specs.declared.record.Drive.{Drive}
 use Rattle.model.specs.Commands.{drive_formatted, pending_ended, as_effect}
 use Rattle.model.specs.Commands.{format_drive as format_on}
-use Rattle.model.specs.Machine.{Disk, Machine, with_disk, some_parted, filling, reformatted, format_drive}
+use Rattle.model.specs.Machine.{Disk, Arm, Machine, with_disk, some_parted, filling, reformatted, format_drive}
 use Rattle.model.proofs.claim.Mirrors.{Mirrors}
 use Rattle.model.proofs.claim.States.{split_zero, parted_zero, split_mirrored}
 use Rattle.model.proofs.engine.Outside.{drive_length, drive_label}
 use Rattle.model.proofs.claim.Remaking.{drive_remade}
-use Rattle.model.proofs.claim.Agrees.{Stored, something, Drives, InStep, Follows}
+use Rattle.model.proofs.claim.Agrees.{Stored, something, Drives, Arms, InStep, Follows}
 use Rattle.model.proofs.claim.Ends.{done_drive, well_follows, made_follows}
 use Rattle.model.proofs.engine.Judged.{passed_on}
 use Rattle.model.proofs.claim.Current.{InForce, mirrored}
@@ -51,6 +51,10 @@ module _ (medium : Medium) (entry : Drive) (image : List ℕ) (u : Disk) (drive 
         stored = subst (Stored medium (reformatted p s inter fill u) after) (sym force.is)
             (something entry.config p valid made.0 made.1 mirror);
       }
+
+arms_settled : (entry : Drive) (arm : Arm) → Arms entry arm → Arms (pending_ended entry) arm
+unfolding pending_ended
+arms_settled entry arm arms = record { goal = arms.goal; way = arms.way }
 
 module _ (b : Block) (area : List ℕ) (entry : Drive) (buffer image : List ℕ) (m : Machine) (alike : InStep b.drive entry buffer image m)
     (p : Params) (force : InForce (medium_of b.drive) entry image (m.disks b.drive) p)
@@ -93,4 +97,4 @@ module _ (b : Block) (area : List ℕ) (entry : Drive) (buffer image : List ℕ)
       (drive_settled _ entry image u alike.drive p force s b.extra fill after len
       (drive_label b p force.within image force.fits entry.config fill ten (omega (arith, lf)) ours)
       (drive_remade b p force.within inter fill lf u image force.fits entry.config ten ours
-      (λ h. (below h, (passed_on _ _ _ _ e).0)))) len) 0 []))
+      (λ h. (below h, (passed_on _ _ _ _ e).0)))) len (arms_settled entry (m.arms b.drive) alike.arm)) 0 []))

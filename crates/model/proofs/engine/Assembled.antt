@@ -11,6 +11,7 @@ use Rattle.base.proofs.Parts.{length_none}
 use Rattle.model.specs.declared.record.Controller.{Controller}
 use Rattle.model.specs.Block.{block_of}
 use Rattle.model.specs.Record.{drive_at, blank_drive, Effect}
+use Rattle.model.specs.Arm.{ticked, ticked_all, tick_of}
 use Rattle.model.specs.Engine.{Result, image_of, left, loaded, fresh}
 
 pub drive_below : (block : List ℕ) → (block_of block).drive < 4
@@ -58,3 +59,12 @@ fresh_drive images (suc zero) h = refl
 fresh_drive images (suc (suc zero)) h = refl
 fresh_drive images (suc (suc (suc zero))) h = refl
 fresh_drive images (suc (suc (suc (suc d)))) h = absurd (omega arith)
+
+-- A tick: each drive's arm moves by its own way.
+pub tick_drive : (c : Controller) (d : ℕ) → d < 4 → drive_at (tick_of c) d ≡ ticked (drive_at c d)
+unfolding drive_at tick_of ticked_all
+tick_drive c zero h = refl
+tick_drive c (suc zero) h = refl
+tick_drive c (suc (suc zero)) h = refl
+tick_drive c (suc (suc (suc zero))) h = refl
+tick_drive c (suc (suc (suc (suc d)))) h = absurd (omega arith)

@@ -36,7 +36,7 @@ use Rattle.model.specs.Table.{TableRow, check_number, is_among, row_for}
 use Rattle.model.specs.Checks.{bytes_of, size_in, judge}
 use Rattle.model.specs.Record.{setting_in, unless, Effect, effect, Made, made, unless_named}
 use Rattle.model.specs.Commands.{fill_of, drive_formatted, format_drive, format_track, transferred, read, write, assign_alternate}
-use Rattle.model.specs.Commands.{do_free, do_track, do_sectors, as_effect, do_disk, carry_out}
+use Rattle.model.specs.Commands.{do_free, do_track, do_sectors, as_effect, do_disk, arm_left, carry_out}
 use Rattle.model.specs.Engine.{view_of, obey}
 use Rattle.model.proofs.engine.Checked.{opcode_for, row_of, Cleared, cleared, track_cleared, count_cleared}
 use Rattle.model.proofs.engine.Outside.{Outside, outside_self, outside_less, plain_most, fill_most}
@@ -153,7 +153,7 @@ module _ (b : Block) (given : List ℕ) (area : ℕ) (entry : Drive) (buffer ima
 
     carried_outside : (s : Setting) → setting_in medium entry (length image) ≡ s → (command : Command) → (row_for b.opcode).command ≡ command
         → AfterIt s (carry_out b s given entry buffer image command).image
-    unfolding carry_out
+    unfolding carry_out arm_left
     carried_outside s e (Free command) is = free_outside s command
     carried_outside Invalid e (OnDisk command) is = outside_self low Invalid image
     carried_outside (Valid p) e (OnDisk command) is = disk_outside p e command is

@@ -19,6 +19,7 @@ use Rattle.model.specs.declared.block.Block.{Block}
 use Rattle.model.specs.declared.table.Command.{Command}
 use Rattle.model.specs.declared.table.Command.TheVariants.{Free, OnDisk, Copy, Unknown}
 use Rattle.model.specs.declared.table.FreeCommand.TheVariants.{RequestSense, WriteBuffer, ReadBuffer, Initialize}
+use Rattle.model.specs.declared.table.DiskCommand.{DiskCommand}
 use Rattle.model.specs.declared.table.DiskCommand.TheVariants.{ArmWork, TrackWork, SectorWork}
 use Rattle.model.specs.declared.table.ArmCommand.TheVariants.{TestReady, Recalibrate, Seek}
 use Rattle.model.specs.declared.table.TrackCommand.TheVariants.{FormatDrive, CheckTrack, FormatTrack, FormatBadTrack, AssignAlternate}
@@ -26,7 +27,7 @@ use Rattle.model.specs.declared.table.SectorCommand.TheVariants.{Read, Write}
 use Rattle.model.specs.declared.verdict.View.{View}
 use Rattle.model.specs.declared.verdict.Verdict.TheVariants.{Passed}
 use Rattle.model.specs.Block.{count_of}
-use Rattle.model.specs.Table.{Interleave, Address, Counted, Settled, SparedWhole, TableRow, applies, table, unknown, row_for}
+use Rattle.model.specs.Table.{Arrived, is_among, check_number, Interleave, Address, Counted, Settled, SparedWhole, TableRow, applies, table, unknown, row_for}
 use Rattle.model.specs.Checks.{with_params, interleave_wrong, past_end, not_spared, bytes_of, reach_of, hits_of, in_order, judge_over, judge}
 use Rattle.model.proofs.engine.Rows.{none, also, each_row}
 use Rattle.model.proofs.engine.Judged.{passed_on, not_refused}
@@ -60,6 +61,20 @@ row_of opcode =
     (also refl (also refl (also refl (also refl (also refl (also refl (also refl (also refl (also refl
     (also refl (also refl (also refl (also refl (also refl (also refl none))))))))))))))))))))))))))))))))) (λ n past. refl) opcode
 
+-- every command that works on the disk asks whether the arm is at rest
+pub asks_arm : (command : DiskCommand) → applies Arrived (row_for (opcode_for (OnDisk command))) ≡ true
+unfolding row_for opcode_for is_among check_number
+asks_arm (ArmWork TestReady) = refl
+asks_arm (ArmWork Recalibrate) = refl
+asks_arm (ArmWork Seek) = refl
+asks_arm (TrackWork FormatDrive) = refl
+asks_arm (TrackWork CheckTrack) = refl
+asks_arm (TrackWork FormatTrack) = refl
+asks_arm (TrackWork FormatBadTrack) = refl
+asks_arm (TrackWork AssignAlternate) = refl
+asks_arm (SectorWork Read) = refl
+asks_arm (SectorWork Write) = refl
+
 and_off : (a b : Bool) → a ≡ true → (a && b) ≡ false → b ≡ false
 and_off true b e h = h
 and_off false b e h = absurd (false≢true e)
@@ -76,17 +91,18 @@ abbrev pub Cleared : TableRow → Block → Params → (pending : Bool) → (giv
 Cleared e b p pending given = ClearedOver e b (reach_of (applies Counted e) b) p pending given
 
 module _ (b : Block) (reach : ℕ) (v : View) (given area : ℕ) (passed : judge_over b reach v given area ≡ Passed) where
-  -- all nine tests, one after the other
-  record Nine (e : TableRow) : Type 0 where
+  -- all ten tests, one after the other
+  record Ten (e : TableRow) : Type 0 where
+    arrived : (applies Arrived e && v.travelling) ≡ false
     interleave : (applies Interleave e && with_params v.setting (interleave_wrong b.extra)) ≡ false
     past : (applies Address e && with_params v.setting (past_end b.address reach)) ≡ false
     pending : (v.pending && (applies Settled e && with_params v.setting (not_spared (applies SparedWhole e) b.address))) ≡ false
     taken : bytes_of e.takes b v.setting ≤ given
     handed : bytes_of e.gives b v.setting ≤ area
 
-  nine : Nine (row_for b.opcode)
+  ten : Ten (row_for b.opcode)
   unfolding in_order hits_of
-  nine =
+  ten =
       let t₁ = passed_on _ _ _ _ passed in
       let t₂ = passed_on _ _ _ _ t₁.1 in
       let t₃ = passed_on _ _ _ _ t₂.1 in
@@ -94,15 +110,27 @@ module _ (b : Block) (reach : ℕ) (v : View) (given area : ℕ) (passed : judge
       let t₅ = passed_on _ _ _ _ t₄.1 in
       let t₆ = passed_on _ _ _ _ t₅.1 in
       let t₇ = passed_on _ _ _ _ t₆.1 in
-      let t₈ = not_refused _ _ _ t₇.1 in
+      let t₈ = passed_on _ _ _ _ t₇.1 in
       let t₉ = not_refused _ _ _ t₈.1 in
-      record { interleave = t₅.0; past = t₆.0; pending = t₇.0; taken = ltb-false _ _ t₈.0; handed = ltb-false _ _ t₉.0 }
+      let t₁₀ = not_refused _ _ _ t₉.1 in
+      record {
+        arrived = t₅.0;
+        interleave = t₆.0;
+        past = t₇.0;
+        pending = t₈.0;
+        taken = ltb-false _ _ t₉.0;
+        handed = ltb-false _ _ t₁₀.0;
+      }
 
   pub given_over : bytes_of (row_for b.opcode).takes b v.setting ≤ given
-  given_over = nine.taken
+  given_over = ten.taken
 
   pub area_over : bytes_of (row_for b.opcode).gives b v.setting ≤ area
-  area_over = nine.handed
+  area_over = ten.handed
+
+  -- the arm is at rest, where the row asks for it
+  pub rested_over : applies Arrived (row_for b.opcode) ≡ true → v.travelling ≡ false
+  rested_over flag = and_off (applies Arrived (row_for b.opcode)) v.travelling flag ten.arrived
 
   asked : (p : Params) → v.setting ≡ Valid p → (applied : Bool) (ask : Params → Bool) → (applied && with_params v.setting ask) ≡ false
       → (applied && ask p) ≡ false
@@ -114,9 +142,9 @@ module _ (b : Block) (reach : ℕ) (v : View) (given area : ℕ) (passed : judge
   cleared_over p valid =
       let e = row_for b.opcode in
       record {
-        interleave = asked p valid (applies Interleave e) (interleave_wrong b.extra) nine.interleave;
-        address = asked p valid (applies Address e) (past_end b.address reach) nine.past;
-        unpended = subst (λ (s : Setting). (v.pending && (applies Settled e && with_params s (not_spared (applies SparedWhole e) b.address))) ≡ false) valid nine.pending;
+        interleave = asked p valid (applies Interleave e) (interleave_wrong b.extra) ten.interleave;
+        address = asked p valid (applies Address e) (past_end b.address reach) ten.past;
+        unpended = subst (λ (s : Setting). (v.pending && (applies Settled e && with_params s (not_spared (applies SparedWhole e) b.address))) ≡ false) valid ten.pending;
         enough = subst (λ (s : Setting). bytes_of e.takes b s ≤ given) valid given_over;
       }
 
@@ -128,6 +156,10 @@ module _ (b : Block) (v : View) (given area : ℕ) (passed : judge b v given are
   pub area_enough : bytes_of (row_for b.opcode).gives b v.setting ≤ area
   unfolding judge
   area_enough = area_over b _ v given area passed
+
+  pub rested : applies Arrived (row_for b.opcode) ≡ true → v.travelling ≡ false
+  unfolding judge
+  rested = rested_over b _ v given area passed
 
   pub cleared : (p : Params) → v.setting ≡ Valid p → Cleared (row_for b.opcode) b p v.pending given
   unfolding judge

@@ -29,12 +29,13 @@ use Rattle.model.specs.declared.verdict.Verdict.{Verdict}
 use Rattle.model.specs.declared.verdict.Verdict.TheVariants.{Refused, Faulty, Passed}
 use Rattle.model.specs.declared.verdict.Judgement.{Judgement}
 use Rattle.model.specs.Block.{count_of}
-use Rattle.model.specs.Table.{Address, Counted, Settled, SparedWhole, check_number, is_among, applies, row_for}
+use Rattle.model.specs.Table.{Arrived, Address, Counted, Settled, SparedWhole, check_number, is_among, applies, row_for}
 use Rattle.model.specs.Checks.{on, judged, reach_of, in_order, judge_over, judge, filling_of, shares, saying_of, judge_copy}
 use Rattle.model.specs.Record.{setting_in, failed, unless_named}
+use Rattle.model.specs.Arm.{is_travelling, arms_still}
 use Rattle.model.specs.Copies.{CopyEffect, copy_effect, route_of, copy_left, copy_with}
 use Rattle.model.specs.Engine.{view_of, image_of, obey_copy}
-use Rattle.model.proofs.engine.Checked.{cleared_over, reach_in, not_pending, count_some}
+use Rattle.model.proofs.engine.Checked.{cleared_over, rested_over, reach_in, not_pending, count_some}
 use Rattle.model.proofs.engine.Known.{setting_known}
 use Rattle.model.proofs.engine.Leaving.{Verdicts, fault, pass, copy_judge_by}
 
@@ -58,6 +59,11 @@ module _ (b : Block) (reach : ℕ) (v : View) (is : b.opcode ≡ 0x20) (passed :
 
   pub row_settled : (image : List ℕ) → Fits p image → v.pending ≡ false
   row_settled image f = not_pending f.within (cleared_over b reach v 0 0 passed p valid) settled not_whole
+
+-- the arm is at rest
+row_rested : (b : Block) (reach : ℕ) (v : View) → b.opcode ≡ 0x20 → judge_over b reach v 0 0 ≡ Passed → v.travelling ≡ false
+unfolding row_for is_among check_number
+row_rested b reach v is passed = rested_over b reach v 0 0 passed (ap (λ (opcode : ℕ). applies Arrived (row_for opcode)) is)
 
 -- ---- The codes of the checks: not 0, and none above 22h
 abbrev pub CheckCode : ℕ → Type 0
@@ -90,7 +96,8 @@ row_low b reach v =
     (low_pick _ _ _ (low_faulty _ _ (omega arith))
     (low_pick _ _ _ (low_faulty _ _ (omega arith))
     (low_pick _ _ _ (low_faulty _ _ (omega arith))
-    (low_pick _ _ _ (low_refused _) (low_pick _ _ _ (low_refused _) low_passed))))))))
+    (low_pick _ _ _ (low_faulty _ _ (omega arith))
+    (low_pick _ _ _ (low_refused _) (low_pick _ _ _ (low_refused _) low_passed)))))))))
 
 -- Copy's byte 4 is a count, by its row: the source's sectors must all be there.
 pub judge_counted : (b : Block) (v : View) → b.opcode ≡ 0x20 → judge b v 0 0 ≡ judge_over b (count_of b) v 0 0
@@ -164,6 +171,8 @@ module _ (k : CopyBlock) (source target : Drive) (images : List (List ℕ)) (fro
     pub target_valid : setting_in (medium_of k.to.drive) target (length T) ≡ Valid q
     pub source_settled : source.pending ≡ false
     pub target_settled : target.pending ≡ false
+    pub source_rested : is_travelling source.way ≡ false
+    pub target_rested : is_travelling target.way ≡ false
     pub fitting : Fitting (route_of k p q) n images
 
   module _ (p q : Params) (sp : setting_in (medium_of k.from.drive) source (length S) ≡ Valid p)
@@ -187,6 +196,8 @@ module _ (k : CopyBlock) (source target : Drive) (images : List (List ℕ)) (fro
           target_valid = sq;
           source_settled = row_settled k.from n _ from one p sp S f.0;
           target_settled = row_settled k.to _ _ to two q sq T g.0;
+          source_rested = row_rested k.from n _ from one;
+          target_rested = row_rested k.to _ _ to two;
           fitting = record {
             source_fits = f.0;
             target_fits = g.0;
@@ -201,8 +212,8 @@ module _ (k : CopyBlock) (source target : Drive) (images : List (List ℕ)) (fro
   -- ---- What it leaves
   pub data CopyObeyed (buffer : List ℕ) : CopyEffect → Type 0 where
     copy_failed : (named code : ℕ) (at : Lba) → CheckCode code
-        → CopyObeyed buffer (copy_effect (failed k.from.drive named code at 0 0 source) buffer images)
-    copy_done : (p q : Params) → Copies p q → CopyObeyed buffer (copy_left k source buffer (copied (route_of k p q) n images))
+        → CopyObeyed buffer (copy_effect (failed k.from.drive named code at 0 0 source) arms_still buffer images)
+    copy_done : (p q : Params) → Copies p q → CopyObeyed buffer (copy_left k (route_of k p q) source buffer (copied (route_of k p q) n images))
 
   module _ (buffer : List ℕ) where
     abbrev v : View
@@ -221,7 +232,7 @@ module _ (k : CopyBlock) (source target : Drive) (images : List (List ℕ)) (fro
 
     judged_obeyed : {said : Judgement} → CopyJudged k v w said
         → CopyObeyed buffer
-        (unless_named said.verdict k.from.drive said.named source (λ e. copy_effect e buffer images)
+        (unless_named said.verdict k.from.drive said.named source (λ e. copy_effect e arms_still buffer images)
         (copy_with k (setting_in (medium_of k.from.drive) source (length S)) (setting_in (medium_of k.to.drive) target (length T)) source buffer images))
     unfolding unless_named view_of
     judged_obeyed (copy_fault named code at some) = copy_failed named code at some

@@ -1,15 +1,17 @@
--- What a call with a Copy leaves, drive by drive: of the entries only the source's sense changes, of the images only the
+-- What a call with a Copy leaves, drive by drive: of the entries only the source's sense and both arms change, of the images only the
 -- destination's, and there neither the label nor a byte past the last track, and nothing where no sector is done; of the buffer only
 -- the front, by the last sector done.
 use Prim.Native.Nat.{ℕ, suc, ◌≤◌, ◌<◌}
 use mathlib.Core.Path.{◌≡◌, refl, sym, ap, ◌∙◌}
-use mathlib.Core.Bool.{true}
+use mathlib.Core.Bool.{Bool, true, false}
+use lib.IntN.{ℤ}
 use mathlib.Core.List.{List, [], ◌++◌}
 use native.Mathlib.Omega.{arith}
 use native.Mathlib.Decide.{ℕ_discrete, dec_lt}
 use lib.ListN.{length, get_or, set, replicate, length-set, get_or-eq_default}
 use lib.Seq.{get_or-set_same, get_or-set_other}
 use borrow.Author.Tests.{eqb-true}
+use Rattle.base.specs.Pick.{pick}
 use Rattle.base.specs.Part.{splice}
 use Rattle.geometry.specs.declared.params.Lba.{Lba}
 use Rattle.geometry.specs.declared.params.Params.{Params}
@@ -28,10 +30,14 @@ use Rattle.copying.proofs.Laws.{copied_listwise, copied_target, copied_others, l
 use Rattle.model.specs.declared.block.CopyBlock.{CopyBlock}
 use Rattle.model.specs.declared.record.Drive.{Drive}
 use Rattle.model.specs.declared.record.Controller.{Controller}
+use Rattle.model.specs.declared.record.Arrival.{Arrival}
+use Rattle.model.specs.declared.record.CopyArms.{CopyArms}
 use Rattle.model.specs.Block.{block_of, is_copy, copy_of, count_of}
 use Rattle.model.specs.Record.{blank_drive, drive_at, setting_in, sensed, failed, good}
-use Rattle.model.specs.Copies.{CopyEffect, copy_effect, route_of, copy_ending, copy_left}
-use Rattle.model.specs.Engine.{image_of, Result, left_by_copy, on_drives}
+use Rattle.model.specs.Arm.{placed, arrival_of, last_from, brought, arms_still}
+use Rattle.model.specs.Copies.{CopyEffect, copy_effect, route_of, copy_ending, is_target_fault, arms_of, copy_left}
+use Rattle.model.specs.Engine.{image_of, Result, left_by_copy, arms_brought, on_drives}
+use Rattle.model.proofs.engine.Arms.{arrival_drive, brought_length, brought_other, brought_by}
 use Rattle.model.proofs.engine.Assembled.{drive_below}
 use Rattle.model.proofs.engine.Outside.{Outside, outside_self}
 use Rattle.model.proofs.engine.Written.{writes}
@@ -74,15 +80,16 @@ module _ (c : Controller) (block area : List ℕ) (images : List (List ℕ)) (co
 
   pub by_copy : (P : Result → Type 0)
       → ((named code : ℕ) (at : Lba) → CheckCode code
-      → P (left_by_copy k.from.drive (copy_effect (failed k.from.drive named code at 0 0 source) c.buffer images) c area))
+      → P (left_by_copy k.from.drive (copy_effect (failed k.from.drive named code at 0 0 source) arms_still c.buffer images) c area))
       → ((p q : Params) → Carried p q
-      → P (left_by_copy k.from.drive (copy_left k source c.buffer (copied (route_of k p q) (count_of k.from) images)) c area))
+      → let e = copy_left k (route_of k p q) source c.buffer (copied (route_of k p q) (count_of k.from) images) in
+      P (arms_brought e.arms (left_by_copy k.from.drive e c area)))
       → P (on_drives k c area images)
-  unfolding on_drives
+  unfolding on_drives arms_brought brought arms_still pick
   by_copy P failing done = by _ (copy_obeyed k source target images (from_copy block copy) (to_copy block copy) one_drive c.buffer)
     where
       by : (e : CopyEffect) → CopyObeyed k source target images (from_copy block copy) (to_copy block copy) one_drive c.buffer e
-          → P (left_by_copy k.from.drive e c area)
+          → P (arms_brought e.arms (left_by_copy k.from.drive e c area))
       by _ (copy_failed named code at some) = failing named code at some
       by _ (copy_done p q copies) = done p q copies
 
@@ -96,7 +103,7 @@ ending_sectors k read done (TargetFault code) entry = refl
 ending_sectors k read done Short entry = refl
 
 -- ---- Entries
--- all but the sense is as before
+-- all but the sense and the arm is as before
 pub record OnlySensed (before after : Drive) : Type 0 where
   pub config : after.config ≡ before.config
   pub known : after.known ≡ before.known
@@ -183,7 +190,7 @@ pub record CopyLeaves (k : CopyBlock) (c : Controller) (area : List ℕ) (images
   pub untouched : r.area ≡ area
   pub drives : length r.outcome.controller.drives ≡ length c.drives
   pub entries : (d : ℕ) → OnlySensed (drive_at c d) (drive_at r.outcome.controller d)
-  pub other_entries : (d : ℕ) → (d ≡ k.from.drive → ⊥) → drive_at r.outcome.controller d ≡ drive_at c d
+  pub other_entries : (d : ℕ) → (d ≡ k.from.drive → ⊥) → (d ≡ k.to.drive → ⊥) → drive_at r.outcome.controller d ≡ drive_at c d
   pub outside : (d : ℕ)
       → Outside 16 (setting_in (medium_of d) (drive_at c d) (length (image_of d images))) (image_of d images) (image_of d r.images)
   pub other_images : (d : ℕ) → (d ≡ k.to.drive → ⊥) → image_of d r.images ≡ image_of d images
@@ -196,6 +203,62 @@ pub record CopyLeaves (k : CopyBlock) (c : Controller) (area : List ℕ) (images
       × (content_of q (further k.to.address m) (image_of k.to.drive r.images) ≡ Bytes last)
       × (r.outcome.controller.buffer ≡ splice 0 last c.buffer)
 
+-- ---- The arms are those of the two drives
+abbrev Either : (from to d : ℕ) → Type 0
+Either from to d = (x : ℕ) → (x ≡ from → ⊥) → (x ≡ to → ⊥) → x ≡ d → ⊥
+
+arms_drives : (r : Route) (read done : ℕ) (end : End)
+    → Either r.source r.target (arms_of r read done end).first.drive × Either r.source r.target (arms_of r read done end).second.drive
+unfolding arms_of pick
+arms_drives r read done end = by (is_target_fault end)
+  where
+    source : Arrival
+    source = arrival_of r.source r.p (last_from r.a read)
+
+    target : Arrival
+    target = arrival_of r.target r.q (last_from r.b done)
+
+    arms : Bool → CopyArms
+    arms fault = pick fault (record { first = target; second = source }) (record { first = source; second = target })
+
+    from_source : Either r.source r.target source.drive
+    from_source x nf nt e = nf (e ∙ arrival_drive r.source r.p (last_from r.a read))
+
+    from_target : Either r.source r.target target.drive
+    from_target x nf nt e = nt (e ∙ arrival_drive r.target r.q (last_from r.b done))
+
+    by : (fault : Bool)
+        → Either r.source r.target (arms fault).first.drive × Either r.source r.target (arms fault).second.drive
+    by true = (from_target, from_source)
+    by false = (from_source, from_target)
+
+only_placed : (before x : Drive) (target : ℕ) (way : ℤ) → OnlySensed before x → OnlySensed before (placed target way x)
+only_placed before x target way h = record { config = h.config; known = h.known; pending = h.pending }
+
+arms_leave : (k : CopyBlock) (c : Controller) (area : List ℕ) (images : List (List ℕ)) (arms : CopyArms) (r : Result)
+    → Either k.from.drive k.to.drive arms.first.drive × Either k.from.drive k.to.drive arms.second.drive
+    → CopyLeaves k c area images r → CopyLeaves k c area images (arms_brought arms r)
+unfolding arms_brought drive_at
+arms_leave k c area images arms r either h =
+    let l = r.outcome.controller.drives in
+    let m = brought arms.first l in
+    record {
+      number = h.number;
+      bytes = h.bytes;
+      untouched = h.untouched;
+      drives = brought_length arms.second m ∙ brought_length arms.first l ∙ h.drives;
+      entries = λ d.
+          brought_by arms.second m (OnlySensed (drive_at c d)) (only_placed (drive_at c d)) d
+          (brought_by arms.first l (OnlySensed (drive_at c d)) (only_placed (drive_at c d)) d (h.entries d));
+      other_entries = λ d nf nt.
+          brought_other arms.second m d (either.1 d nf nt) ∙ brought_other arms.first l d (either.0 d nf nt) ∙ h.other_entries d nf nt;
+      outside = h.outside;
+      other_images = h.other_images;
+      images_none = h.images_none;
+      buffer_none = h.buffer_none;
+      buffer_front = h.buffer_front;
+    }
+
 module _ (c : Controller) (block area : List ℕ) (images : List (List ℕ)) (copy : is_copy block ≡ true) where
   abbrev from : ℕ
   from = (copy_of block).from.drive
@@ -204,17 +267,17 @@ module _ (c : Controller) (block area : List ℕ) (images : List (List ℕ)) (co
   to = (copy_of block).to.drive
 
   failed_leaves : (named code : ℕ) (at : Lba)
-      → CopyLeaves (copy_of block) c area images (left_by_copy from (copy_effect (failed from named code at 0 0 (drive_at c from)) c.buffer images) c area)
+      → CopyLeaves (copy_of block) c area images (left_by_copy from (copy_effect (failed from named code at 0 0 (drive_at c from)) arms_still c.buffer images) c area)
   unfolding left_by_copy failed
   failed_leaves named code at =
-      let e = copy_effect (failed from named code at 0 0 (drive_at c from)) c.buffer images in
+      let e = copy_effect (failed from named code at 0 0 (drive_at c from)) arms_still c.buffer images in
       record {
         number = refl;
         bytes = refl;
         untouched = refl;
         drives = copy_drives from e c area;
         entries = left_only from e c area (failed_only from named code at 0 0 (drive_at c from));
-        other_entries = copy_other_entry from e c area;
+        other_entries = λ d nf nt. copy_other_entry from e c area d nf;
         outside = λ d. outside_self 16 _ (image_of d images);
         other_images = λ d ne. refl;
         images_none = λ z d. refl;
@@ -238,13 +301,13 @@ module _ (c : Controller) (block area : List ℕ) (images : List (List ℕ)) (co
 
   done_leaves : (p q : Params) → Carried c block area images copy p q
       → CopyLeaves (copy_of block) c area images
-      (left_by_copy from (copy_left (copy_of block) (drive_at c from) c.buffer (copied (route_of (copy_of block) p q) (count_of (copy_of block).from) images)) c area)
+      (left_by_copy from (copy_left (copy_of block) (route_of (copy_of block) p q) (drive_at c from) c.buffer (copied (route_of (copy_of block) p q) (count_of (copy_of block).from) images)) c area)
   unfolding left_by_copy copy_left
   done_leaves p q copies =
       let r = route_of (copy_of block) p q in
       let n = count_of (copy_of block).from in
       let x = copied r n images in
-      let e = copy_left (copy_of block) (drive_at c from) c.buffer x in
+      let e = copy_left (copy_of block) r (drive_at c from) c.buffer x in
       let count = ending_sectors (copy_of block) x.read x.done x.end (drive_at c from) in
       record {
         number = ending_number x.read x.done x.end (drive_at c from);
@@ -252,7 +315,7 @@ module _ (c : Controller) (block area : List ℕ) (images : List (List ℕ)) (co
         untouched = refl;
         drives = copy_drives from e c area;
         entries = left_only from e c area (ending_only (copy_of block) x.read x.done x.end (drive_at c from));
-        other_entries = copy_other_entry from e c area;
+        other_entries = λ d nf nt. copy_other_entry from e c area d nf;
         outside = λ d. by d (ℕ_discrete d to);
         other_images = copied_others r n images copies.fitting;
         images_none = λ z d. still d (sym count ∙ z) (ℕ_discrete d to);
@@ -276,4 +339,9 @@ module _ (c : Controller) (block area : List ℕ) (images : List (List ℕ)) (co
       still d none (no ne) = copied_others r n images copies.fitting d ne
 
   pub copy_leaves : CopyLeaves (copy_of block) c area images (on_drives (copy_of block) c area images)
-  copy_leaves = by_copy c block area images copy (CopyLeaves (copy_of block) c area images) (λ named code at some. failed_leaves named code at) done_leaves
+  unfolding copy_left
+  copy_leaves =
+      by_copy c block area images copy (CopyLeaves (copy_of block) c area images) (λ named code at some. failed_leaves named code at)
+      (λ p q copies.
+      let x = copied (route_of (copy_of block) p q) (count_of (copy_of block).from) images in
+      arms_leave (copy_of block) c area images _ _ (arms_drives (route_of (copy_of block) p q) x.read x.done x.end) (done_leaves p q copies))

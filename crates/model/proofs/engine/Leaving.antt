@@ -5,6 +5,7 @@ use mathlib.Core.Bool.{Bool, true, false, not, true≢false}
 use mathlib.Core.List.{List, [], ◌∷◌}
 use native.Mathlib.Omega.{arith}
 use lib.ListN.{length, set, take, drop}
+use lib.IntN.{ℤ}
 use lib.Seq.{set-get_or}
 use lib.Dec.{ltb, eqb}
 use Rattle.base.specs.Pick.{pick}
@@ -49,16 +50,18 @@ use Rattle.model.specs.Checks.{Test, on, refuses, judged, bytes_of, hits_of, in_
 use Rattle.model.specs.Sense.{addressed, sense_of}
 use Rattle.model.specs.Record.{drive_at, blank_drive, sensed, refused, failed, good, unless, Effect, effect, Made, made, unless_named}
 use Rattle.model.specs.Commands.{pending_ended, format_drive, check_tests, check_track, alone_tests, format_track, transfer_ending, transferred, read, write}
-use Rattle.model.specs.Commands.{assign_tests, missing_in, assign_alternate, initialized, initialized_by, initialize, do_free, do_arm, do_track, do_sectors, as_effect, do_disk, carry_out}
+use Rattle.model.specs.Commands.{assign_tests, missing_in, assign_alternate, initialized, initialized_by, initialize, do_free, do_arm, do_track, do_sectors, as_effect, do_disk, arm_left, carry_out}
+use Rattle.model.specs.Arm.{placed, sought, last_done}
 use Rattle.model.specs.Engine.{obey, Result, image_of}
+use Rattle.model.proofs.engine.Arms.{left_by_lem, sought_by}
 
 -- ---- What becomes of the entry of the drive, by the status
 -- The sense after a good end: no code, the number of the drive, no address.
 abbrev pub clear : Block → List ℕ
 clear b = 0 ∷ 32 * b.drive ∷ 0 ∷ 0 ∷ []
 
--- The commands that change nothing but the sense of an entry. Request Sense does not even do that, and Initialize and Format
--- Drive do more.
+-- The commands that change nothing but the sense and the arm of an entry. Request Sense does not even do that, and Initialize and
+-- Format Drive do more.
 unfoldable pub is_plain : Command → Bool
 is_plain (Free RequestSense) = false
 is_plain (Free Initialize) = false
@@ -74,7 +77,7 @@ is_plain (OnDisk (SectorWork command)) = true
 is_plain Unknown = false
 is_plain Copy = false
 
--- Any command can end with a code, which is in the sense then.
+-- Any command can end with a code, which is in the sense then; one that works on the disk can move the arm.
 pub data Makes (b : Block) (given : List ℕ) (entry : Drive) (image : List ℕ) : Command → (status : ℕ) → Drive → Type 0 where
   coded : {command : Command} (code : ℕ) (at : Lba) → 1 ≤ code → Makes b given entry image command (2 + 32 * b.drive) (sensed (sense_of code b.drive at) entry)
   cleared : {command : Command} → is_plain command ≡ true → Makes b given entry image command (32 * b.drive) (sensed (clear b) entry)
@@ -82,6 +85,8 @@ pub data Makes (b : Block) (given : List ℕ) (entry : Drive) (image : List ℕ)
   initial : Makes b given entry image (Free Initialize) (32 * b.drive)
       (sensed (clear b) (initialized (part 0 10 given) (not (label_holds (medium_of b.drive) image (part 0 10 given))) entry))
   formatted : Makes b given entry image (OnDisk (TrackWork FormatDrive)) (32 * b.drive) (sensed (clear b) (pending_ended entry))
+  armed : {command : DiskCommand} {status : ℕ} {after : Drive} (target : ℕ) (way : ℤ) → Makes b given entry image (OnDisk command) status after
+      → Makes b given entry image (OnDisk command) status (placed target way after)
 
 -- ---- Of the buffer: Write Buffer takes the data given, Read and Write change its front, every other command leaves it
 unfoldable pub spares_buffer : Command → Bool
@@ -188,7 +193,8 @@ check_judged code a = judged_by (faults (not_zero code) done)
 
 pub judge_by : (b : Block) (v : View) (given area : ℕ) → Verdicts true (judge b v given area)
 unfolding judge in_order
-judge_by b v given area = judged_by (faults some (faults some (faults some (faults some (faults some (faults some (faults some (seconds (thirds done)))))))))
+judge_by b v given area =
+    judged_by (faults some (faults some (faults some (faults some (faults some (faults some (faults some (faults some (seconds (thirds done))))))))))
 
 -- A Copy takes no data and hands none over, so that neither drive's checks refuse it.
 pub copy_judge_by : (b : Block) (reach : ℕ) (v : View) → b.opcode ≡ 0x20 → Verdicts false (judge_over b reach v 0 0)
@@ -201,7 +207,7 @@ copy_judge_by b reach v is =
     ap (λ (opcode : ℕ). ltb 0 (bytes_of (row_for opcode).gives b v.setting)) is
     in
     judged_by
-    (faults some (faults some (faults some (faults some (faults some (faults some (faults some (spares short (spares small done)))))))))
+    (faults some (faults some (faults some (faults some (faults some (faults some (faults some (faults some (spares short (spares small done))))))))))
 
 -- own checks: what holds of a command that has failed or passed them holds
 own : {A : Type 0} (P : A → Type 0) (drive : ℕ) (entry : Drive) (keep : Ending → A) (after : A) {v : Verdict} → Verdicts false v
@@ -293,11 +299,20 @@ module _ (b : Block) (given : List ℕ) (entry : Drive) (buffer image : List ℕ
   free_ends Initialize = initialize_ends
 
   -- ---- On the disk
-  arm_ends : (command : ArmCommand) → LeavesAs (OnDisk (ArmWork command)) (effect (do_arm b entry command) buffer [] image)
+  sought_ends : (command : ArmCommand) (cylinder : ℕ)
+      → LeavesAs (OnDisk (ArmWork command)) (effect (good b.drive 0 0 (sought (medium_of b.drive) cylinder entry)) buffer [] image)
+  unfolding good sensed is_plain spares_buffer is_quiet
+  sought_ends command cylinder =
+      sought_by (λ (x : Drive). LeavesAs (OnDisk (ArmWork command)) (effect (good b.drive 0 0 x) buffer [] image)) entry
+      (λ target way.
+      record { number = refl; bytes = refl; makes = armed target way (good_makes refl); fills = as_was refl; hands = nothing refl; writes = untouched })
+      (medium_of b.drive) cylinder
+
+  arm_ends : (p : Params) (command : ArmCommand) → LeavesAs (OnDisk (ArmWork command)) (effect (do_arm b p entry command) buffer [] image)
   unfolding do_arm good is_plain spares_buffer is_quiet
-  arm_ends TestReady = record { number = refl; bytes = refl; makes = good_makes refl; fills = as_was refl; hands = nothing refl; writes = untouched }
-  arm_ends Recalibrate = record { number = refl; bytes = refl; makes = good_makes refl; fills = as_was refl; hands = nothing refl; writes = untouched }
-  arm_ends Seek = record { number = refl; bytes = refl; makes = good_makes refl; fills = as_was refl; hands = nothing refl; writes = untouched }
+  arm_ends p TestReady = record { number = refl; bytes = refl; makes = good_makes refl; fills = as_was refl; hands = nothing refl; writes = untouched }
+  arm_ends p Recalibrate = sought_ends Recalibrate _
+  arm_ends p Seek = sought_ends Seek _
 
   module _ (p : Params) where
     -- by own checks, of a command that may change the image
@@ -371,15 +386,25 @@ module _ (b : Block) (given : List ℕ) (entry : Drive) (buffer image : List ℕ
 
     disk_ends : (command : DiskCommand) → LeavesAs (OnDisk command) (do_disk b p given entry buffer image command)
     unfolding do_disk
-    disk_ends (ArmWork command) = arm_ends command
+    disk_ends (ArmWork command) = arm_ends p command
     disk_ends (TrackWork command) = track_ends command
     disk_ends (SectorWork command) = sectors_end command
+
+    armed_ends : (command : DiskCommand) (e : Effect) → LeavesAs (OnDisk command) e → LeavesAs (OnDisk command) (arm_left b p command e)
+    unfolding arm_left
+    armed_ends command e h =
+        left_by_lem
+        (λ (x : Drive). LeavesAs (OnDisk command) (effect (record { entry = x; answer = e.ending.answer }) e.buffer e.handed e.image))
+        e.ending.entry
+        (λ target way.
+        record { number = h.number; bytes = h.bytes; makes = armed target way h.makes; fills = h.fills; hands = h.hands; writes = h.writes })
+        p (last_done command b p e.ending.answer) h
 
   carried_ends : (s : Setting) (command : Command) → LeavesAs command (carry_out b s given entry buffer image command)
   unfolding carry_out
   carried_ends s (Free command) = free_ends command
   carried_ends Invalid (OnDisk command) = faulty (OnDisk command) 0x0A b.address (omega arith)
-  carried_ends (Valid p) (OnDisk command) = disk_ends p command
+  carried_ends (Valid p) (OnDisk command) = armed_ends p command _ (disk_ends p command)
   carried_ends s Unknown = faulty Unknown 0x20 b.address (omega arith)
   carried_ends s Copy = faulty Copy 0x20 b.address (omega arith)
 

@@ -30,12 +30,13 @@ use Rattle.model.specs.Table.{row_for}
 use Rattle.model.specs.Checks.{judged, judge}
 use Rattle.model.specs.Commands.{assign_tests, missing_in}
 use Rattle.model.specs.Record.{drive_at}
+use Rattle.model.specs.Arm.{is_travelling}
 use Rattle.model.specs.Engine.{image_of, view_of, obey}
 use Rattle.model.specs.Records.{is_good, Is}
 use Rattle.model.specs.Power.{Keeping, first_track, second_track, CutShort}
 use Rattle.model.proofs.engine.Assembled.{drive_below}
 use Rattle.model.proofs.engine.Blocks.{six_whole, other_row}
-use Rattle.model.proofs.power.Passed.{good_passed, fit, on_track, may_move}
+use Rattle.model.proofs.power.Passed.{good_passed, fit, on_track, at_rest, may_move}
 use Rattle.model.proofs.power.Calls.{call_answer}
 
 -- of drive d
@@ -45,6 +46,7 @@ pub record Facts (c : Controller) (images : List (List ℕ)) (d : ℕ) (p : Para
   pub long : length cut ≡ length (image_of d images)
   pub label : (at size : ℕ) → at + size ≤ 16 → part at size cut ≡ part at size (image_of d images)
   pub calm : (drive_at c d).pending ≡ false
+  pub still : is_travelling (drive_at c d).way ≡ false
   pub reads : (a : Lba) → OnDrive p a → ((track_of p a).0 ≡ B.0 → ⊥) → content_of p a cut ≡ content_of p a (image_of d images)
 
 -- on the drive of the block
@@ -100,6 +102,9 @@ module _ (c : Controller) (block given area : List ℕ) (images : List (List ℕ
   quiet : entry.pending ≡ false
   quiet = (on_track (block_of block) given (length area) entry c.buffer image p is k.force passed own_passed k.keep).calm
 
+  resting : is_travelling entry.way ≡ false
+  resting = at_rest (block_of block) given (length area) entry c.buffer image p is k.force passed own_passed k.keep
+
   module _ (cut : List ℕ) (x : CutShort p block given image cut) where
     pub its_facts : Facts c images d p B cut
     its_facts = record {
@@ -108,6 +113,7 @@ module _ (c : Controller) (block given area : List ℕ) (images : List (List ℕ
       long = same_length p A B map image fits maps may cut x;
       label = λ at size h. same_beyond p A B map image fits maps may cut x at size (inl h);
       calm = quiet;
+      still = resting;
       reads = power p A B map image fits maps may cut x;
     }
 

@@ -1,6 +1,6 @@
 -- What follows where an Assign Alternate with keep ends well: its checks have passed, and A can be moved to B with its contents.
 use Prim.Native.Nat.{ℕ}
-use mathlib.Core.Path.{◌≡◌, refl, sym, ◌∙◌}
+use mathlib.Core.Path.{◌≡◌, refl, sym, ap, ◌∙◌}
 use mathlib.Core.Bool.{true, false, true≢false}
 use mathlib.Core.List.{List}
 use lib.ListN.{length}
@@ -17,6 +17,7 @@ use Rattle.track.specs.Image.{Fits}
 use Rattle.track.specs.Pair.{state_of}
 use Rattle.keeping.specs.Keep.{kept, Keepable}
 use Rattle.model.specs.declared.block.Block.{Block}
+use Rattle.model.specs.declared.table.Command.{Command}
 use Rattle.model.specs.declared.table.Command.TheVariants.{OnDisk}
 use Rattle.model.specs.declared.table.DiskCommand.TheVariants.{TrackWork}
 use Rattle.model.specs.declared.table.TrackCommand.TheVariants.{AssignAlternate}
@@ -24,13 +25,14 @@ use Rattle.model.specs.declared.record.Drive.{Drive}
 use Rattle.model.specs.declared.verdict.Verdict.{Verdict}
 use Rattle.model.specs.declared.verdict.Verdict.TheVariants.{Passed}
 use Rattle.model.specs.Block.{keeps, alternate_of}
-use Rattle.model.specs.Table.{check_number, is_among, row_for}
+use Rattle.model.specs.Table.{Arrived, check_number, is_among, TableRow, applies, row_for}
 use Rattle.model.specs.Checks.{judged, judge}
 use Rattle.model.specs.Record.{setting_in, good_answer, failed, good, Effect, Made, made, unless_named, unless}
-use Rattle.model.specs.Commands.{assign_tests, missing_in, alternated, assigned, assign_alternate, fill_of, do_track, as_effect, do_disk, carry_out}
+use Rattle.model.specs.Commands.{assign_tests, missing_in, alternated, assigned, assign_alternate, fill_of, do_track, as_effect, do_disk, arm_left, carry_out}
+use Rattle.model.specs.Arm.{is_travelling}
 use Rattle.model.specs.Engine.{view_of, obey}
 use Rattle.model.specs.Records.{is_good}
-use Rattle.model.proofs.engine.Checked.{opcode_for, TrackCleared, one_track_lem}
+use Rattle.model.proofs.engine.Checked.{opcode_for, row_of, rested, TrackCleared, one_track_lem}
 use Rattle.model.proofs.engine.Assignable.{Assignable, assignable, keepable, missing_kept}
 use Rattle.model.proofs.engine.Leaving.{Verdicts, fault, pass, judge_by, assign_judged}
 use Rattle.model.proofs.engine.Beyond.{w, fits, clear}
@@ -64,7 +66,7 @@ module _ (b : Block) (given : List ℕ) (area : ℕ) (entry : Drive) (buffer ima
   setting = valid
 
   own_good : is_good b.drive (carry_out b (Valid p) given entry buffer image (OnDisk (TrackWork AssignAlternate))).ending.answer ≡ true → own ≡ Passed
-  unfolding carry_out do_disk do_track as_effect assign_alternate
+  unfolding carry_out arm_left do_disk do_track as_effect assign_alternate
   own_good ok = good_own b.drive entry image _ (assign_judged p (byte given 0) b.address (alternate_of given) _ _ _) ok
 
   pub good_passed : is_good b.drive (obey b given area entry buffer image).ending.answer ≡ true → (in_order ≡ Passed) × (own ≡ Passed)
@@ -82,6 +84,13 @@ module _ (b : Block) (given : List ℕ) (area : ℕ) (entry : Drive) (buffer ima
     unfolding row_for opcode_for is_among check_number
     on_track = one_track_lem fit.within (clear b given area entry buffer image passed p valid (OnDisk (TrackWork AssignAlternate)) is) refl refl refl refl refl
 
+    -- the arm is at rest
+    pub at_rest : is_travelling entry.way ≡ false
+    unfolding view_of row_for opcode_for is_among check_number
+    at_rest =
+        let row : row_for b.opcode ≡ row_for 0x0E = row_of b.opcode ∙ ap (λ (command : Command). row_for (opcode_for command)) is in
+        rested b (view_of (medium_of b.drive) entry (length image)) (length given) area passed (ap (λ (r : TableRow). applies Arrived r) row)
+
     pub found : Assignable p b.address (alternate_of given) (state_of p A image) (state_of p B image) (missing_in b p A image)
     found = assignable p (byte given 0) b.address (alternate_of given) _ _ _ own_passed
 
@@ -94,5 +103,5 @@ module _ (b : Block) (given : List ℕ) (area : ℕ) (entry : Drive) (buffer ima
 
     pub leaves : ((obey b given area entry buffer image).image ≡ kept p A B (layout_of p.sectors b.extra) image)
         × ((obey b given area entry buffer image).ending.answer ≡ good_answer b.drive 0 0)
-    unfolding obey carry_out do_disk do_track as_effect assign_alternate alternated unless_named good
+    unfolding obey carry_out arm_left do_disk do_track as_effect assign_alternate alternated unless_named good
     leaves = rw (passed, setting, is, own_passed) (moved, refl)

@@ -58,7 +58,7 @@ module _ (c : Controller) (images : List (List ℕ)) (p : Params) (B : Track) (c
         left_image here f.below images cut (drive_at c here) p f.long f.label force label,
       )
       (read_same (block_of read) sent (length room) _ _ _ _ _ cut p f.within o.command
-      (again_view here f.below images cut (drive_at c here) p f.long f.label force label f.calm) force
+      (again_view here f.below images cut (drive_at c here) p f.long f.label force label f.calm f.still) force
       (λ i l on. f.reads (further (block_of read).address i) on (o.outside i l)))
 
   four : here < length (fresh after_cut).drives

@@ -1,12 +1,14 @@
 -- A Read on two images with the same contents at its addresses, by entries with the same view: it answers alike, whatever the buffers.
 use Prim.Native.Nat.{ℕ, ◌+◌, ◌≤◌, ◌<◌}
-use mathlib.Core.Path.{◌≡◌, refl}
+use mathlib.Core.Path.{◌≡◌, refl, sym, ◌∙◌}
 use mathlib.Core.Bool.{Bool, true, false}
+use mathlib.Core.Option.{Option}
 use mathlib.Core.List.{List, []}
 use native.Mathlib.Omega.{arith}
 use lib.ListN.{length}
 use lib.Dec.{eqb}
 use Rattle.base.specs.Pick.{pick}
+use Rattle.geometry.specs.declared.params.Lba.{Lba}
 use Rattle.geometry.specs.declared.params.Params.{Params}
 use Rattle.geometry.specs.declared.config.Setting.TheVariants.{Valid}
 use Rattle.geometry.specs.Params.{Within, OnDrive, address_count, further}
@@ -16,6 +18,7 @@ use Rattle.contents.specs.Content.{content_of}
 use Rattle.contents.proofs.Laws.{Alike, begun_alike, reading_alike}
 use Rattle.model.specs.declared.block.Block.{Block}
 use Rattle.model.specs.declared.table.Command.TheVariants.{OnDisk}
+use Rattle.model.specs.declared.table.DiskCommand.{DiskCommand}
 use Rattle.model.specs.declared.table.DiskCommand.TheVariants.{SectorWork}
 use Rattle.model.specs.declared.table.SectorCommand.TheVariants.{Read}
 use Rattle.model.specs.declared.record.Drive.{Drive}
@@ -26,8 +29,10 @@ use Rattle.model.specs.Block.{count_of}
 use Rattle.model.specs.Table.{check_number, is_among, row_for}
 use Rattle.model.specs.Checks.{judge}
 use Rattle.model.specs.Record.{setting_in, sensed, refused, failed, good, Effect, effect, unless_named, unless}
-use Rattle.model.specs.Commands.{transfer_ending, transferred, read, do_sectors, do_disk, carry_out}
+use Rattle.model.specs.Commands.{transfer_ending, transferred, read, do_sectors, do_disk, arm_left, carry_out}
+use Rattle.model.specs.Arm.{left_at}
 use Rattle.model.specs.Engine.{view_of, obey}
+use Rattle.model.proofs.engine.Arms.{left_by_lem}
 use Rattle.model.proofs.engine.Checked.{opcode_for, count_cleared}
 use Rattle.model.proofs.engine.Beyond.{clear}
 use Rattle.model.proofs.engine.Leaving.{Verdicts, second, third, fault, pass, judge_by}
@@ -63,6 +68,18 @@ transfer_same b one other here there x y same =
       sense = λ zero. rw (same.done, same.code, same.handed) end.1;
     }
 
+-- ---- wherever it leaves the arm, the sense stays
+left_sense : (p : Params) (last : Option Lba) (entry : Drive) → (left_at p last entry).sense ≡ entry.sense
+left_sense p last entry = left_by_lem (λ (x : Drive). x.sense ≡ entry.sense) entry (λ target way. refl) p last refl
+
+armed_same : (b : Block) (p : Params) (command : DiskCommand) (x y : Effect) → SameRead x y → SameRead (arm_left b p command x) (arm_left b p command y)
+unfolding arm_left
+armed_same b p command x y same = record {
+  answer = same.answer;
+  handed = same.handed;
+  sense = λ zero. left_sense p _ x.ending.entry ∙ same.sense zero ∙ sym (left_sense p _ y.ending.entry);
+}
+
 -- ---- by the checks
 module _ (drive : ℕ) (one other : Drive) (here there image cut : List ℕ) (x y : Effect) where
   by_both : {v : Verdict} → Verdicts true v → (v ≡ Passed → SameRead x y)
@@ -86,8 +103,9 @@ module _ (b : Block) (given : List ℕ) (area : ℕ) (one other : Drive) (here t
       → SameRead (carry_out b (Valid p) given one here cut (OnDisk (SectorWork Read))) (carry_out b (Valid p) given other there image (OnDisk (SectorWork Read)))
   unfolding carry_out do_disk do_sectors read begun
   done_same passed =
-      transfer_same b one other here there _ _
-      (reading_alike p (count_of b) b.address (begun cut) (begun image) (begun_alike cut image) (λ i l. same i l (omega (arith, l, on_drive_lem passed))))
+      armed_same b p (SectorWork Read) _ _
+      (transfer_same b one other here there _ _
+      (reading_alike p (count_of b) b.address (begun cut) (begun image) (begun_alike cut image) (λ i l. same i l (omega (arith, l, on_drive_lem passed)))))
 
   setting : (view_of (medium_of b.drive) other (length image)).setting ≡ Valid p
   unfolding view_of

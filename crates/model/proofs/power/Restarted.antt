@@ -6,6 +6,7 @@ use mathlib.Core.List.{List, []}
 use native.Mathlib.Decide.{dec_lt}
 use native.Mathlib.Omega.{arith}
 use lib.ListN.{length, set, replicate, get_or-eq_default}
+use lib.IntN.{pos}
 use lib.Seq.{get_or-set_same}
 use Rattle.base.specs.Pick.{pick}
 use Rattle.base.specs.Part.{part}
@@ -22,6 +23,7 @@ use Rattle.geometry.proofs.Settings.{setting_within}
 use Rattle.geometry.proofs.Labels.{holds_own}
 use Rattle.model.specs.declared.record.Drive.{Drive}
 use Rattle.model.specs.Record.{drive_at, setting_in}
+use Rattle.model.specs.Arm.{is_travelling}
 use Rattle.model.specs.Engine.{image_of, view_of, loaded_by, loaded, fresh}
 use Rattle.model.proofs.engine.Assembled.{fresh_drive}
 use Rattle.model.proofs.engine.Known.{setting_known}
@@ -85,7 +87,7 @@ module _ (d : ℕ) (h : d < 4) (images : List (List ℕ)) (cut : List ℕ) (entr
 
   -- the entry after it
   abbrev again : Drive
-  again = record { sense = replicate 4 0; config = entry.config; known = true; pending = false }
+  again = record { sense = replicate 4 0; config = entry.config; known = true; pending = false; target = 0; way = pos 0 }
 
   pub loaded_again : drive_at (fresh left) d ≡ again
   unfolding loaded loaded_by
@@ -98,7 +100,7 @@ module _ (d : ℕ) (h : d < 4) (images : List (List ℕ)) (cut : List ℕ) (entr
   pub again_label : label_holds medium cut entry.config ≡ true
   again_label = holds_own medium cut entry.config p cut_valid cut_config
 
-  -- a drive that was not pending is seen as before
-  pub again_view : entry.pending ≡ false → view_of medium again (length cut) ≡ view_of medium entry (length image)
-  unfolding view_of
-  again_view calm = rw (again_force, force, long, calm)
+  -- a drive that was not pending, its arm at rest, is seen as before
+  pub again_view : entry.pending ≡ false → is_travelling entry.way ≡ false → view_of medium again (length cut) ≡ view_of medium entry (length image)
+  unfolding view_of is_travelling
+  again_view calm still = rw (again_force, force, long, calm, still)

@@ -4,6 +4,7 @@ use mathlib.Core.Path.{◌≡◌, refl, sym, ap, subst, ◌∙◌}
 use mathlib.Core.Bool.{true, false}
 use mathlib.Core.List.{List}
 use lib.ListN.{length, replicate}
+use lib.IntN.{pos}
 use Rattle.base.specs.Byte.{byte}
 use Rattle.geometry.specs.declared.params.Params.{Params}
 use Rattle.geometry.specs.Medium.{medium_of}
@@ -45,7 +46,7 @@ module _ (c : Controller) (block given area : List ℕ) (images : List (List ℕ
   f = its_facts c block given area images p k cut x
 
   abbrev restart : Drive
-  restart = record { sense = replicate 4 0; config = before.config; known = true; pending = false }
+  restart = record { sense = replicate 4 0; config = before.config; known = true; pending = false; target = 0; way = pos 0 }
 
   -- the move can be made from the image that was cut, and ends as from the old one
   renewed : Keepable p (first_track p block) (second_track p given) cut
@@ -57,7 +58,7 @@ module _ (c : Controller) (block given area : List ℕ) (images : List (List ℕ
   -- its checks pass again
   order_again : judge (block_of block) (view_of (medium_of drive) restart (length cut)) (length given) (length area) ≡ Passed
   order_again =
-      rw (again_view drive f.below images cut before p f.long f.label k.force k.label f.calm) (passed c block given area images p k)
+      rw (again_view drive f.below images cut before p f.long f.label k.force k.label f.calm f.still) (passed c block given area images p k)
 
   own_again : judged (assign_tests p (byte given 0) (block_of block).address (alternate_of given)
       (state_of p (first_track p block) cut) (state_of p (second_track p given) cut) (missing_in (block_of block) p (first_track p block) cut)) ≡ Passed

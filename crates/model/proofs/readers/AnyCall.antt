@@ -30,7 +30,7 @@ use Rattle.model.specs.declared.record.Controller.{Controller}
 use Rattle.model.specs.Block.{block_of, count_of, is_whole, is_copy}
 use Rattle.model.specs.Table.{row_for}
 use Rattle.model.specs.Record.{drive_at, setting_in, refused, Effect, effect}
-use Rattle.model.specs.Commands.{transferred, write, do_sectors, do_disk, carry_out}
+use Rattle.model.specs.Commands.{transferred, write, do_sectors, do_disk, arm_left, carry_out}
 use Rattle.model.specs.Engine.{Result, view_of, obey, image_of, left, on_drive, execute}
 use Rattle.model.proofs.engine.Leaving.{Makes, Fills, Hands, LeavesBy, Writes, untouched as as_lent, Obeyed, answered, denied, obeyed, images_kept}
 use Rattle.model.proofs.engine.Leaving.{unmoved, drives_kept}
@@ -144,7 +144,7 @@ module _ (c : Controller) (block given area : List ℕ) (images : List (List ℕ
 module _ (b : Block) (given : List ℕ) (area : ℕ) (entry : Drive) (buffer image : List ℕ) (p : Params)
     (is : (row_for b.opcode).command ≡ OnDisk (SectorWork Write)) (valid : setting_in (medium_of b.drive) entry (length image) ≡ Valid p) where
   write_obeyed : Written p (count_of b) b.address image (obey b given area entry buffer image).image
-  unfolding obey view_of carry_out do_disk do_sectors write transferred begun
+  unfolding obey view_of carry_out arm_left do_disk do_sectors write transferred begun
   write_obeyed =
       unless_left (λ (e : Effect). Written p (count_of b) b.address image e.image) _ b.drive entry (λ e. effect e buffer [] image) _
       (λ e. written_none p (count_of b) b.address image)

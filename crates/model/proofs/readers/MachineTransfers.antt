@@ -52,7 +52,7 @@ denied_says (by_taken {t}) a = stops_taken t a
 -- a command that ends with a code: k sectors counted, these bytes handed over; code and address are in the sense
 Fails : Block → (code : ℕ) → Lba → (k : ℕ) → (handed : List ℕ) → Reply × Machine → Type 0
 Fails b code at k handed r =
-    (r.0 ≡ record { number = 0; status = 2 + 32 * b.drive; message = 0; sectors = k; bytes = length handed; handed = handed })
+    (r.0 ≡ record { number = 0; status = 2 + 32 * b.drive; message = 0; sectors = k; bytes = length handed; handed = handed; ways = [] })
     × (r.1.senses b.drive ≡ sense_of code b.drive at)
 
 transfer_fails : (b : Block) (code : ℕ) (at : Lba) (x : Passage) (handed : List ℕ) (m : Machine) (k : ℕ) → x.end ≡ Faulty code at

@@ -10,9 +10,10 @@ use Rattle.geometry.specs.Medium.{medium_of}
 use Rattle.model.specs.declared.record.Controller.{Controller}
 use Rattle.model.specs.Block.{block_of, is_copy, copy_of}
 use Rattle.model.specs.Record.{blank_drive, drive_at, Effect}
+use Rattle.model.specs.Arm.{ticked, ticked_all, tick_of}
 use Rattle.model.specs.Engine.{obey, Result, image_of, left, on_drive, on_drives, execute, fresh, reset_of}
-use Rattle.model.specs.Claim.{System, Call, Reset, Command, replied, left_by, called, engine_at_end, begin}
-use Rattle.model.proofs.engine.Assembled.{drive_below, drives_length, own_entry, other_entry, own_image, other_image, fresh_drive}
+use Rattle.model.specs.Claim.{System, Call, Reset, Tick, Report, Command, replied, left_by, called, engine_at_end, begin}
+use Rattle.model.proofs.engine.Assembled.{drive_below, drives_length, own_entry, other_entry, own_image, other_image, fresh_drive, tick_drive}
 use Rattle.model.proofs.engine.Beyond.{outside_kept}
 use Rattle.model.proofs.engine.Blocks.{by_block}
 use Rattle.model.proofs.engine.CopyLeaves.{copy_leaves}
@@ -57,7 +58,7 @@ module _ (c : Controller) (area : List ℕ) (images : List (List ℕ)) (told : A
       by d (yes q) = rw (q, own_entry drive e c area images (omega (arith, told.four)), own_image drive e c area images len) new
       by d (no q) = rw (other_entry drive e c area images d q, other_image drive e c area images d q) (told.drives d)
 
-  -- a Copy changes no label, and of the entries a sense alone
+  -- a Copy changes no label, and of the entries a sense and arms alone
   copy_by_label : (block : List ℕ) → is_copy block ≡ true → AllIn (system_of (on_drives (copy_of block) c area images))
   copy_by_label block copy =
       let left_it = copy_leaves c block area images copy in
@@ -82,9 +83,24 @@ module _ (c : Controller) (area : List ℕ) (images : List (List ℕ)) (told : A
       (obey_pending b given (length area) entry c.buffer image (told.drives b.drive)))
       (λ none. told)
 
+-- a tick moves arms alone
+tick_past : (c : Controller) (d : ℕ) → 4 ≤ d → drive_at (tick_of c) d ≡ blank_drive
+unfolding drive_at tick_of ticked_all
+tick_past c d h = get_or-eq_default (tick_of c).drives blank_drive h
+
+tick_by_label : (c : Controller) (images : List (List ℕ)) → AllPendingByLabel c images → AllPendingByLabel (tick_of c) images
+unfolding tick_of ticked_all ticked
+tick_by_label c images told = record { four = refl; drives = λ d. by d (dec_lt d 4) }
+  where
+    by : (d : ℕ) → Dec (d < 4) → PendingByLabel (medium_of d) (drive_at (tick_of c) d) (image_of d images)
+    by d (yes h) = rw (tick_drive c d h) (told.drives d)
+    by d (no h) = rw (tick_past c d (omega (arith, h))) (blank_pending (medium_of d) (image_of d images))
+
 call_by_label : (s : System) (call : Call) → AllIn s → AllIn (called s call).1
 unfolding called left_by replied reset_of
 call_by_label s Reset told = fresh_by_label s.images
+call_by_label s Tick told = tick_by_label s.controller s.images told
+call_by_label s Report told = told
 call_by_label s (Command block given area) told = execute_by_label s.controller area s.images told block given
 
 run_by_label : (calls : List Call) (s : System) → AllIn s → AllIn (engine_at_end s calls)

@@ -18,6 +18,7 @@ use Rattle.geometry.proofs.Labels.{holds_own, label_made}
 use Rattle.model.specs.declared.block.Block.{Block}
 use Rattle.model.specs.declared.table.Command.{Command}
 use Rattle.model.specs.declared.table.Command.TheVariants.{OnDisk}
+use Rattle.model.specs.declared.table.DiskCommand.{DiskCommand}
 use Rattle.model.specs.declared.table.DiskCommand.TheVariants.{TrackWork}
 use Rattle.model.specs.declared.table.TrackCommand.TheVariants.{FormatDrive}
 use Rattle.model.specs.declared.record.Drive.{Drive}
@@ -27,11 +28,13 @@ use Rattle.model.specs.declared.verdict.Verdict.TheVariants.{Refused, Faulty, Pa
 use Rattle.model.specs.Table.{TableRow, row_for}
 use Rattle.model.specs.Checks.{judge}
 use Rattle.model.specs.Record.{blank_drive, sensed, setting_in, refused, failed, good, unless, Effect, effect, made, unless_named}
-use Rattle.model.specs.Commands.{pending_ended, format_drive, initialized, do_track, as_effect, do_disk, carry_out}
+use Rattle.model.specs.Commands.{pending_ended, format_drive, initialized, do_track, as_effect, do_disk, arm_left, carry_out}
+use Rattle.model.specs.Arm.{last_done}
 use Rattle.model.specs.Engine.{view_of, obey, loaded}
+use Rattle.model.proofs.engine.Arms.{left_by_lem}
 use Rattle.model.proofs.engine.Checked.{opcode_for, row_of}
 use Rattle.model.proofs.engine.Known.{setting_known}
-use Rattle.model.proofs.engine.Leaving.{Makes, coded, cleared, kept, initial, formatted, Obeyed, answered, denied, obeyed}
+use Rattle.model.proofs.engine.Leaving.{Makes, coded, cleared, kept, initial, formatted, armed, Obeyed, answered, denied, obeyed}
 use Rattle.model.proofs.engine.Beyond.{format_label, outside_kept}
 use Rattle.model.proofs.claim.Mirrors.{KeepsLabel}
 use Rattle.model.proofs.claim.Current.{label_same}
@@ -94,6 +97,7 @@ module _ (b : Block) (given : List ℕ) (area : ℕ) (entry : Drive) (buffer ima
   makes_pending other (cleared only) = told
   makes_pending other initial = λ known. refl
   makes_pending other formatted = absurd (other refl)
+  makes_pending other (armed target way made) = makes_pending other made
 
   obeyed_pending : {command : Command} {e : Effect} → (command ≡ OnDisk (TrackWork FormatDrive) → ⊥) → Obeyed b given entry buffer image command e
       → PendingByLabel medium e.ending.entry image
@@ -122,6 +126,12 @@ module _ (b : Block) (given : List ℕ) (area : ℕ) (entry : Drive) (buffer ima
   unfolding as_effect good sensed pending_ended
   format_leaves after holds known = sym (ap not holds)
 
+  -- wherever it leaves the arm
+  armed_leaves : (p : Params) (command : DiskCommand) (e : Effect) → AfterIt e → AfterIt (arm_left b p command e)
+  unfolding arm_left
+  armed_leaves p command e h =
+      left_by_lem (λ (x : Drive). PendingByLabel medium x e.image) e.ending.entry (λ target way. h) p (last_done command b p e.ending.answer) h
+
   carried_leaves : (row_for b.opcode).command ≡ OnDisk (TrackWork FormatDrive)
       → judge b (view_of medium entry (length image)) (length given) area ≡ Passed
       → (s : Setting) → setting_in medium entry (length image) ≡ s → AfterIt (carry_out b s given entry buffer image (OnDisk (TrackWork FormatDrive)))
@@ -130,7 +140,8 @@ module _ (b : Block) (given : List ℕ) (area : ℕ) (entry : Drive) (buffer ima
   carried_leaves is passed (Valid p) e =
       let whole = format_label b given area entry buffer image passed p e is in
       let valid = ap (setting_of medium entry.config) whole.0 ∙ setting_known medium entry (length image) p e in
-      unless_leaves (as_effect buffer) _ (λ x. made x image) _ (λ x. refl) (λ ok. format_leaves _ (format_holds medium entry.config _ p whole.1 valid))
+      armed_leaves p (TrackWork FormatDrive) _
+      (unless_leaves (as_effect buffer) _ (λ x. made x image) _ (λ x. refl) (λ ok. format_leaves _ (format_holds medium entry.config _ p whole.1 valid)))
 
   obey_leaves : Dec ((row_for b.opcode).command ≡ OnDisk (TrackWork FormatDrive)) → AfterIt (obey b given area entry buffer image)
   unfolding obey view_of

@@ -30,19 +30,21 @@ use Rattle.model.specs.Block.{block_of, count_of, from_buffer, keeps, is_whole, 
 use Rattle.model.specs.Table.{check_number, is_among, row_for}
 use Rattle.model.specs.Checks.{judged, present_with, is_unknown, block_wrong, control_wrong, with_params, interleave_wrong, past_end, not_spared, size_in, bytes_of, reach_of, hits_of, in_order, judge}
 use Rattle.model.specs.Sense.{addressed, sense_of}
-use Rattle.model.specs.Feed.{Feed, reset, command, Reply}
+use Rattle.model.specs.Feed.{Feed, reset, tick, report, command, Reply}
 use Rattle.model.specs.Engine.{images_of, image_of}
-use Rattle.model.specs.Machine.{Disk, Machine, fresh_disk, fresh_machine, changed, with_sense, with_buffer, with_disk, in_force, becomes, filled, storing, failing_on, providing_on}
+use Rattle.model.specs.Machine.{Disk, resting, Machine, fresh_disk, fresh_machine, changed, with_sense, with_buffer, with_disk, with_arm, in_force, becomes, filled, storing, failing_on, providing_on}
 use Rattle.model.specs.Machine.{well}
 use Rattle.model.specs.Machine.{is_bad, is_moved, is_taken, denied, paired, parted, parted_by, some_parted, address_given, unassignable}
 use Rattle.model.specs.Machine.{finished, with_first, passing, read_from, write_from, inARow, leaving, transfer_by, transfer}
 use Rattle.model.specs.Machine.{filling_on, filling, from_on, reformatted}
 use Rattle.model.specs.Machine.{format_drive, check_track, format_track, format_bad_track, read, write, moving, assign_to, assign_alternate, is_stored, initialize_by}
-use Rattle.model.specs.Machine.{freely, seeking, on_tracks, on_sectors, with_parameters, carried, setting_with, seen, ordered, restored, step}
-use Rattle.model.specs.Claim.{replies, at_end, Call, Reset, Command as Commanded, fed, engine_replies, engine_at_end}
+use Rattle.model.specs.Machine.{freely, seeking, on_tracks, on_sectors, with_parameters, at_sector, at_track, rests, armed, carried, setting_with, seen, ordered, restored, step}
+use Rattle.model.specs.Claim.{replies, at_end, Call, Reset, Tick, Report, Command as Commanded, fed, engine_replies, engine_at_end}
 use Rattle.model.specs.Claim.{begin, begin_machine, is_held, Holds, Claim}
 use Rattle.model.proofs.claim.Claimed.{claimed}
 use Rattle.model.proofs.anchors.Session.{Line, all_told, lengths_of, Answers, six, config, session, worked}
+use Rattle.model.proofs.anchors.ArmSessions.{Told, both, outward, left_there, initialized_there, at_once, told}
+use Rattle.model.proofs.anchors.ArmSessions as arms
 use Rattle.model.proofs.anchors.Floppies.{lacking, mistaking, formatting, transferring, marking, worked as floppies-worked}
 use Rattle.model.proofs.anchors.Leaves.{leaves, after_start, well_done, tracks_made, moved_bytes, cut_short, at_fault, in_pairs, in_order_lem, turned_away, reset_all, with_contents}
 
@@ -112,15 +114,29 @@ module _ (n₀ n₁ n₂ n₃ : ℕ) where
       ap (λ (told : List Reply). all_told told lines) ((zero_claim calls).0
       ∙ ap (replies (begin_machine all_zeros)) is ∙ ap (λ (m : Machine). replies m (map (λ (l : Line). l.call) lines)) machine_same) ∙ answers
 
+  -- and so with ticks and reports: reply by reply, the ways too
+  unfoldable pub EngineTells : List arms.Line → Type 0
+  EngineTells lines = engine_replies (begin all_zeros) (map (λ (l : arms.Line). l.call) lines) ≡ map (λ (l : arms.Line). l.reply) lines
+
+  pub engine_tells : (lines : List arms.Line) → Told (lengths_of n₀ n₁ n₂ n₃) lines → EngineTells lines
+  unfolding Told EngineTells
+  engine_tells lines tells =
+      let calls = map (λ (l : arms.Line). l.call) lines in
+      (zero_claim calls).0 ∙ ap (λ (m : Machine). replies m (map fed calls)) machine_same ∙ tells
+
 -- every list that the machine is fed comes from calls
 unfoldable pub call_of : Feed → Call
 call_of reset = Reset
+call_of tick = Tick
+call_of report = Report
 call_of (command block given area) = Commanded block given (zeros area)
 
 pub fed_back : (all : List Feed) → map fed (map call_of all) ≡ all
 unfolding fed call_of
 fed_back [] = refl
 fed_back (reset ∷ all) = ap {B = List Feed} (λ cs. reset ∷ cs) (fed_back all)
+fed_back (tick ∷ all) = ap {B = List Feed} (λ cs. tick ∷ cs) (fed_back all)
+fed_back (report ∷ all) = ap {B = List Feed} (λ cs. report ∷ cs) (fed_back all)
 fed_back (command block given area ∷ all) =
     ap₂ {C = List Feed} (λ (n : ℕ) (cs : List Feed). command block given n ∷ cs) (length-replicate area 0) (fed_back all)
 
@@ -160,6 +176,18 @@ engine_leaves =
       answers (after_start with_contents) leaves.9,
     )
 
+-- and those with arms on their way
+engine_arms : EngineTells 50704 35376 4368 0 both × EngineTells 50704 35376 4368 0 outward × EngineTells 50704 35376 4368 0 left_there
+    × EngineTells 50704 35376 4368 0 initialized_there × EngineTells 50704 35376 4368 0 at_once
+engine_arms =
+    let tells = engine_tells 50704 35376 4368 0 in (
+      tells both told.0,
+      tells outward told.1,
+      tells left_there told.2,
+      tells initialized_there told.3,
+      tells at_once told.4,
+    )
+
 -- ---- What was saved is found: three tracks are formatted, track 1 is moved to 2, and two sectors are written, the last of track 0
 -- and the first of track 1. By the claim's second half the image has them.
 three : Params
@@ -191,11 +219,11 @@ Kept u = (u.stored ≡ some (config 3))
 machine_keeps : Kept disk
 unfolding three at saving disk six config is_held fed at_end lengths_of pick same_bytes medium_of is_floppy is_in ranges_of size_for fitted_to fields_in
     setting_by setting_of block_of count_of from_buffer keeps row_for present_with judge judged in_order hits_of is_unknown block_wrong control_wrong with_params
-    interleave_wrong past_end not_spared is_valid reach_of size_in bytes_of is_among check_number addressed sense_of fresh_disk fresh_machine changed with_sense
-    with_buffer with_disk in_force becomes filled storing failing_on well providing_on is_bad is_moved is_taken denied paired parted parted_by some_parted
+    interleave_wrong past_end not_spared is_valid reach_of size_in bytes_of is_among check_number addressed sense_of resting fresh_disk fresh_machine changed with_sense
+    with_buffer with_disk with_arm in_force becomes filled storing failing_on well providing_on is_bad is_moved is_taken denied paired parted parted_by some_parted
     address_given unassignable finished with_first passing read_from write_from inARow leaving transfer_by transfer filling_on filling from_on reformatted
     format_drive check_track format_track format_bad_track read write moving assign_to assign_alternate is_stored initialize_by freely seeking on_tracks on_sectors
-    with_parameters carried setting_with seen ordered restored step is_whole block_length is_copy
+    with_parameters at_sector at_track rests armed carried setting_with seen ordered restored step is_whole block_length is_copy
 machine_keeps = (refl, refl, refl, refl, refl)
 
 -- the configuration gives these parameters, if any

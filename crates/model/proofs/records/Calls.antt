@@ -40,8 +40,8 @@ use Rattle.model.specs.Block.{block_of, count_of, is_whole, is_copy, copy_of}
 use Rattle.model.specs.Table.{check_number, is_among, row_for}
 use Rattle.model.specs.Checks.{bytes_of, size_in, judge}
 use Rattle.model.specs.Record.{drive_at, setting_in, refused, failed, unless, Effect, effect, unless_named}
-use Rattle.model.specs.Commands.{transferred, read, do_free, do_track, do_sectors, as_effect, do_disk, carry_out}
-use Rattle.model.specs.Engine.{view_of, obey, Result, image_of, left, on_drive, left_by_copy, on_drives, execute}
+use Rattle.model.specs.Commands.{transferred, read, do_free, do_track, do_sectors, as_effect, do_disk, arm_left, carry_out}
+use Rattle.model.specs.Engine.{view_of, obey, Result, image_of, left, on_drive, left_by_copy, arms_brought, on_drives, execute}
 use Rattle.model.specs.Records.{is_good, on_tracks, named_by, named_by_copy, named, NoOtherRecord, NoneWithoutParameters, PastStays, WrittenReads, GoodWrites, SlotsApart}
 use Rattle.model.proofs.engine.Checked.{opcode_for, track_cleared, count_cleared}
 use Rattle.model.proofs.engine.Leaving.{Verdicts, second, third, fault, pass, judge_by, read_image}
@@ -136,7 +136,7 @@ module _ (b : Block) (given : List ℕ) (area : ℕ) (entry : Drive) (buffer ima
     disk_spares (SectorWork command) is off = sectors_spare command is off
 
     carried_spares : (command : Command) → (row_for b.opcode).command ≡ command → Spared command (carry_out b (Valid p) given entry buffer image command)
-    unfolding carry_out
+    unfolding carry_out arm_left
     carried_spares (Free command) is off = free_spares command off
     carried_spares (OnDisk command) is off = disk_spares command is off
     carried_spares Unknown is off = refl
@@ -145,7 +145,7 @@ module _ (b : Block) (given : List ℕ) (area : ℕ) (entry : Drive) (buffer ima
   -- ---- what a Write counts as done
   written_given : (row_for b.opcode).command ≡ OnDisk (SectorWork Write)
       → Reads b given p (carry_out b (Valid p) given entry buffer image (OnDisk (SectorWork Write)))
-  unfolding carry_out do_disk do_sectors
+  unfolding carry_out arm_left do_disk do_sectors
   written_given is =
       (write_given p image good_image b given (to_write is) entry buffer, write_whole p image good_image b given (to_write is) entry buffer)
 
@@ -234,7 +234,7 @@ module _ (c : Controller) (block given area : List ℕ) (images : List (List ℕ
     -- a Copy names the destination sectors done
     by_copies : (copy : is_copy block ≡ true) → named_by_copy d (copy_of block) (on_drives (copy_of block) c area images).outcome.answer a ≡ false
         → Same (on_drives (copy_of block) c area images)
-    unfolding left_by_copy
+    unfolding left_by_copy arms_brought
     by_copies copy =
         by_copy c block area images copy (λ (r : Result). named_by_copy d (copy_of block) r.outcome.answer a ≡ false → Same r)
         (λ named code at some off. refl) (λ q s copies off. copy_spares c block area images copy d p valid a ha q s copies off)

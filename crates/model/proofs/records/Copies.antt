@@ -27,8 +27,10 @@ use Rattle.model.specs.declared.record.Controller.{Controller}
 use Rattle.model.specs.Block.{is_copy, copy_of, count_of}
 use Rattle.model.specs.Record.{blank_drive, drive_at, sensed, setting_in, failed, good}
 use Rattle.model.specs.Copies.{CopyEffect, copy_effect, route_of, copy_ending, copy_left}
-use Rattle.model.specs.Engine.{image_of, Result, left_by_copy, on_drives}
+use Rattle.model.specs.Arm.{arms_still, brought}
+use Rattle.model.specs.Engine.{image_of, Result, left_by_copy, arms_brought, on_drives}
 use Rattle.model.specs.Records.{is_good, named_by_copy, CopiedReads, GoodCopies, ShortCopies}
+use Rattle.model.proofs.engine.Arms.{brought_by}
 use Rattle.model.proofs.engine.Blocks.{copies}
 use Rattle.model.proofs.engine.CopyLeaves.{Carried, by_copy, ending_sectors, copy_drives, copy_own_entry}
 use Rattle.model.proofs.records.Commands.{not_done, not_good}
@@ -46,15 +48,17 @@ module _ (c : Controller) (block area : List ℕ) (images : List (List ℕ)) (co
   n = count_of k.from
 
   abbrev done_by : (p q : Params) → Result
-  done_by p q = left_by_copy k.from.drive (copy_left k (drive_at c k.from.drive) c.buffer (copied (route_of k p q) n images)) c area
+  done_by p q =
+      let e = copy_left k (route_of k p q) (drive_at c k.from.drive) c.buffer (copied (route_of k p q) n images) in
+      arms_brought e.arms (left_by_copy k.from.drive e c area)
 
   -- the sectors counted, and the images
   its_sectors : (p q : Params) → (done_by p q).outcome.answer.sectors ≡ (copied (route_of k p q) n images).done
-  unfolding left_by_copy copy_left
+  unfolding left_by_copy copy_left arms_brought
   its_sectors p q = let x = copied (route_of k p q) n images in ending_sectors k x.read x.done x.end (drive_at c k.from.drive)
 
   its_images : (p q : Params) → (done_by p q).images ≡ (copied (route_of k p q) n images).images
-  unfolding left_by_copy copy_left
+  unfolding left_by_copy copy_left arms_brought
   its_images p q = refl
 
   pub copy_spares : (d : ℕ) (p : Params) → setting_in (medium_of d) (drive_at c d) (length (image_of d images)) ≡ Valid p
@@ -78,7 +82,7 @@ module _ (c : Controller) (block area : List ℕ) (images : List (List ℕ)) (co
   -- one that has failed before its first sector has none done, and does not end well
   abbrev failed_by : (named code : ℕ) → Lba → Result
   failed_by named code at =
-      left_by_copy k.from.drive (copy_effect (failed k.from.drive named code at 0 0 (drive_at c k.from.drive)) c.buffer images) c area
+      left_by_copy k.from.drive (copy_effect (failed k.from.drive named code at 0 0 (drive_at c k.from.drive)) arms_still c.buffer images) c area
 
   none_done : (named code : ℕ) (at : Lba) → (failed_by named code at).outcome.answer.sectors ≡ 0
   unfolding left_by_copy failed
@@ -116,7 +120,7 @@ module _ (c : Controller) (block area : List ℕ) (images : List (List ℕ)) (co
   good_going read done Short entry ok = absurd (true≢false (sym ok ∙ not_good k.from.drive done 0))
 
   done_going : (p q : Params) → is_good k.from.drive (done_by p q).outcome.answer ≡ true → (copied (route_of k p q) n images).end ≡ Going
-  unfolding left_by_copy copy_left
+  unfolding left_by_copy copy_left arms_brought
   done_going p q ok = let x = copied (route_of k p q) n images in good_going x.read x.done x.end (drive_at c k.from.drive) ok
 
   abbrev Whole : Result → Type 0
@@ -136,6 +140,18 @@ module _ (c : Controller) (block area : List ℕ) (images : List (List ℕ)) (co
       (p, q, carried.source_valid, carried.target_valid, whole.read, rw (its_sectors p q) whole.bytes))
 
   -- ---- with 23h too
+  -- an arm that comes to rest leaves every sense
+  sense_left : (e : CopyEffect)
+      → let r = left_by_copy k.from.drive e c area in
+      get_or (drive_at (arms_brought e.arms r).outcome.controller k.from.drive).sense 0 0 ≡ 0xA3
+      → get_or (drive_at r.outcome.controller k.from.drive).sense 0 0 ≡ 0xA3
+  unfolding drive_at arms_brought
+  sense_left e is =
+      let l = (left_by_copy k.from.drive e c area).outcome.controller.drives in
+      let Code : Drive → Type 0 = λ x. get_or x.sense 0 0 ≡ 0xA3 → get_or (get_or l k.from.drive blank_drive).sense 0 0 ≡ 0xA3 in
+      brought_by e.arms.second (brought e.arms.first l) Code (λ x target way h. h) k.from.drive
+      (brought_by e.arms.first l Code (λ x target way h. h) k.from.drive (λ z. z)) is
+
   -- the source drive's sense after the call; a record without that drive has none
   its_sense : (e : CopyEffect) → get_or (drive_at (left_by_copy k.from.drive e c area).outcome.controller k.from.drive).sense 0 0 ≡ 0xA3
       → get_or e.ending.entry.sense 0 0 ≡ 0xA3
@@ -176,7 +192,7 @@ module _ (c : Controller) (block area : List ℕ) (images : List (List ℕ)) (co
   failed_other named code at l is = sense_low code named at l is
 
   done_short : (p q : Params) → Carried c block area images copy p q
-      → get_or (copy_left k (drive_at c k.from.drive) c.buffer (copied (route_of k p q) n images)).ending.entry.sense 0 0 ≡ 0xA3
+      → get_or (copy_left k (route_of k p q) (drive_at c k.from.drive) c.buffer (copied (route_of k p q) n images)).ending.entry.sense 0 0 ≡ 0xA3
       → (copied (route_of k p q) n images).end ≡ Short
   unfolding copy_left
   done_short p q carried is =
@@ -191,7 +207,7 @@ module _ (c : Controller) (block area : List ℕ) (images : List (List ℕ)) (co
       (λ (r : Result). get_or (drive_at r.outcome.controller k.from.drive).sense 0 0 ≡ 0xA3 → InShort r)
       (λ named code at coded is. absurd (failed_other named code at coded.1 (its_sense _ is)))
       (λ p q carried is.
-      let whole = short_whole (route_of k p q) n images carried.fitting (done_short p q carried (its_sense _ is)) in
+      let whole = short_whole (route_of k p q) n images carried.fitting (done_short p q carried (its_sense _ (sense_left _ is))) in
       (p, q, carried.source_valid, carried.target_valid, whole.read, rw (its_sectors p q) whole.enough, rw (its_sectors p q) whole.no_more))
 
 -- What a Copy counts as done reads as its source's bytes, run on.

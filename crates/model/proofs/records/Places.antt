@@ -28,10 +28,10 @@ use Rattle.model.specs.declared.verdict.Verdict.TheVariants.{Refused, Faulty, Pa
 use Rattle.model.specs.Block.{block_of}
 use Rattle.model.specs.Table.{row_for}
 use Rattle.model.specs.Record.{drive_at, blank_drive, sensed, failed, good, refused, unless, Effect, effect, Made, made, unless_named}
-use Rattle.model.specs.Commands.{pending_ended, format_drive, initialized, initialized_by, initialize, do_free, do_track, as_effect, do_disk, carry_out}
+use Rattle.model.specs.Commands.{pending_ended, format_drive, initialized, initialized_by, initialize, do_free, do_track, as_effect, do_disk, arm_left, carry_out}
 use Rattle.model.specs.Engine.{obey, Result, image_of, left, on_drive, execute}
 use Rattle.model.specs.Records.{is_good, Is, LabelStays, ParametersStay}
-use Rattle.model.proofs.engine.Leaving.{Makes, coded, cleared, kept, initial, formatted, Obeyed, answered, denied, obeyed}
+use Rattle.model.proofs.engine.Leaving.{Makes, coded, cleared, kept, initial, formatted, armed, Obeyed, answered, denied, obeyed}
 use Rattle.model.proofs.engine.Beyond.{unless_left, outside_kept}
 use Rattle.model.proofs.engine.Assembled.{other_entry, other_image}
 use Rattle.model.proofs.engine.Blocks.{by_block, whole_six}
@@ -77,7 +77,7 @@ module _ (b : Block) (given : List ℕ) (area : ℕ) (entry : Drive) (buffer ima
       (λ passed bad. absurd (true≢false (sym (is_good_lem b.drive 0 0) ∙ bad)))
 
   carried_left : (s : Setting) → Left (carry_out b s given entry buffer image (OnDisk (TrackWork FormatDrive)))
-  unfolding carry_out do_disk do_track
+  unfolding carry_out arm_left do_disk do_track
   carried_left (Valid p) bad = format_left p bad
   carried_left Invalid bad = refl
 
@@ -131,6 +131,7 @@ module _ (b : Block) (given : List ℕ) (area : ℕ) (entry : Drive) (buffer ima
   by_makes h kept = keeps_self entry
   by_makes h initial = absurd (h refl)
   by_makes h formatted = record { config = refl; known = refl }
+  by_makes h (armed target way made) = let k = by_makes h made in record { config = k.config; known = k.known }
 
   by_obeyed : (command : Command) (e : Effect) → (command ≡ Free Initialize → ⊥) → Obeyed b given entry buffer image command e → Keeps entry e.ending.entry
   unfolding refused

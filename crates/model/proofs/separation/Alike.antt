@@ -1,5 +1,5 @@
--- Two systems that a drive cannot tell apart: they stay so by a Reset, and by a command of that drive which does not use the buffer, or finds
--- the same there.
+-- Two systems that a drive cannot tell apart: they stay so by a Reset, a tick, and a command of that drive which does not use the buffer, or
+-- finds the same there.
 use Prim.Native.Nat.{ℕ, ◌<◌}
 use mathlib.Core.Path.{◌≡◌, refl, sym, ap, ◌∙◌}
 use mathlib.Core.Bool.{Bool, true, false, not, ◌||◌}
@@ -10,11 +10,12 @@ use Rattle.base.specs.Part.{splice}
 use Rattle.base.proofs.Bools.{not-true}
 use Rattle.model.specs.Block.{block_of, is_copy, is_whole}
 use Rattle.model.specs.Record.{drive_at, Effect}
+use Rattle.model.specs.Arm.{ticked, ticked_all, tick_of}
 use Rattle.model.specs.Engine.{Result, image_of, obey, left, on_drive, loaded, fresh, reset_of}
-use Rattle.model.specs.Claim.{System, Call, Reset, Command, replied, left_by, called, begin}
+use Rattle.model.specs.Claim.{System, Call, Reset, Tick, Report, Command, ways_told, replied, left_by, called, begin}
 use Rattle.model.specs.Separation.{uses_buffer, heard_of, Own, own_of}
 use Rattle.model.specs.Turns.{fills_buffer}
-use Rattle.model.proofs.engine.Assembled.{drive_below, drives_length, own_entry, fresh_drive}
+use Rattle.model.proofs.engine.Assembled.{drive_below, drives_length, own_entry, fresh_drive, tick_drive}
 use Rattle.model.proofs.engine.Blocks.{by_block}
 use Rattle.model.proofs.engine.CopyLeaves.{copy_leaves}
 use Rattle.model.proofs.records.Calls.{one_drive, its_image}
@@ -27,8 +28,10 @@ abbrev pub Four : System → Type 0
 Four s = length s.controller.drives ≡ 4
 
 pub call_four : (s : System) (call : Call) → Four s → Four (called s call).1
-unfolding called left_by replied reset_of fresh on_drive
+unfolding called left_by replied reset_of fresh tick_of ticked_all on_drive
 call_four s Reset four = refl
+call_four s Tick four = refl
+call_four s Report four = four
 call_four s (Command block given area) four =
     by_block s.controller block given area s.images (λ (r : Result). length r.outcome.controller.drives ≡ 4)
     (λ whole copy. (copy_leaves s.controller block area s.images copy).drives ∙ four)
@@ -65,6 +68,22 @@ reset_alike d h s₁ s₂ same = record {
   alike = begin_alike d h s₁.images s₂.images (ap (λ (o : Own). o.image) same);
 }
 
+-- ---- A tick: drive d's arm moves as its own entry says, the buffer stays
+pub tick_alike : (d : ℕ) → d < 4 → (clean : Bool) (s₁ s₂ : System) → Alike d clean s₁ s₂ → AlikeAfter d clean s₁ s₂ Tick
+unfolding called left_by replied tick_of own_of heard_of
+tick_alike d h clean s₁ s₂ alike = record {
+  heard = refl;
+  alike = record {
+    four₁ = call_four s₁ Tick alike.four₁;
+    four₂ = call_four s₂ Tick alike.four₂;
+    own =
+        same_own
+        (tick_drive s₁.controller d h ∙ ap (λ (o : Own). ticked o.entry) alike.own ∙ sym (tick_drive s₂.controller d h))
+        (ap (λ (o : Own). o.image) alike.own);
+    buffer = alike.buffer;
+  };
+}
+
 -- ---- A command of one drive
 module _ (block given area : List ℕ) (whole : is_whole block ≡ true) (other : is_copy block ≡ false) where
   abbrev drive : ℕ
@@ -87,7 +106,7 @@ module _ (block given area : List ℕ) (whole : is_whole block ≡ true) (other 
   own_one : (s : System) → Four s → own_of drive (called s command).1 ≡ record { entry = (done s).ending.entry; image = (done s).image }
   unfolding called replied own_of
   own_one s four =
-      ap (λ (r : Result). own_of drive (replied r).1) (left_one s)
+      ap (λ (r : Result). own_of drive (replied (ways_told s command) r).1) (left_one s)
       ∙ same_own (own_entry drive (done s) s.controller area s.images (omega (arith, drive_below block, four)))
       (its_image s.controller block given area s.images)
 

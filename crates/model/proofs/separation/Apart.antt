@@ -12,7 +12,7 @@ use Rattle.model.specs.declared.record.Controller.{Controller}
 use Rattle.model.specs.Block.{block_of, copy_of, is_copy, is_whole}
 use Rattle.model.specs.Record.{drive_at}
 use Rattle.model.specs.Engine.{Result, image_of, on_drive, execute}
-use Rattle.model.specs.Claim.{System, Call, Reset, Command, replied, left_by, called}
+use Rattle.model.specs.Claim.{System, Call, Reset, Tick, Report, Command, replied, left_by, called}
 use Rattle.model.specs.Separation.{names, concerns, Own, own_of}
 use Rattle.model.proofs.engine.Assembled.{other_entry, other_image}
 use Rattle.model.proofs.engine.Blocks.{by_block}
@@ -55,8 +55,10 @@ module _ (d : ℕ) (c : Controller) (block given area : List ℕ) (images : List
   execute_apart =
       by_block c block given area images Kept
       (λ whole copy.
-      let left_it = copy_leaves c block area images copy in
-      (left_it.other_entries d (not_source d block whole off), left_it.other_images d (not_target d block whole off copy)))
+      let left_it = copy_leaves c block area images copy in (
+        left_it.other_entries d (not_source d block whole off) (not_target d block whole off copy),
+        left_it.other_images d (not_target d block whole off copy),
+      ))
       (λ whole other. (
         other_entry (block_of block).drive _ c area images d (not_first d block whole off),
         other_image (block_of block).drive _ c area images d (not_first d block whole off),
@@ -66,6 +68,8 @@ module _ (d : ℕ) (c : Controller) (block given area : List ℕ) (images : List
 pub call_apart : (d : ℕ) (s : System) (call : Call) → concerns d call ≡ false → own_of d (called s call).1 ≡ own_of d s
 unfolding concerns own_of called left_by replied
 call_apart d s Reset off = absurd (true≢false off)
+call_apart d s Tick off = absurd (true≢false off)
+call_apart d s Report off = refl
 call_apart d s (Command block given area) off =
     let kept = execute_apart d s.controller block given area s.images off in
     same_own kept.0 kept.1

@@ -1,8 +1,8 @@
 -- The two lemmas, for every call: one that does not concern drive d leaves what drive d has; of one that does, what it replies and leaves
 -- there depends on that alone, and on the buffer where it uses it.
 use Prim.Native.Nat.{ℕ, ◌/◌, ◌%◌, ◌<◌}
-use mathlib.Core.Path.{◌≡◌, sym, ap, subst, ◌∙◌}
-use mathlib.Core.Bool.{Bool, true, false, not, ◌&&◌, ◌||◌, or-false, true≢false}
+use mathlib.Core.Path.{◌≡◌, refl, sym, ap, subst, ◌∙◌}
+use mathlib.Core.Bool.{Bool, true, false, not, ◌&&◌, ◌||◌, or-false, true≢false, false≢true}
 use mathlib.Core.List.{List}
 use lib.Dec.{eqb}
 use borrow.Author.Tests.{eqb-true}
@@ -11,12 +11,12 @@ use Rattle.base.proofs.Decide.{pick_true, pick-false}
 use Rattle.base.proofs.Bools.{both_true, not-true}
 use Rattle.model.specs.Block.{block_of, is_copy, is_whole}
 use Rattle.model.specs.Engine.{Result}
-use Rattle.model.specs.Claim.{System, Call, Reset, Command, replied, left_by, called}
+use Rattle.model.specs.Claim.{System, Call, Reset, Tick, Report, Command, replied, left_by, called}
 use Rattle.model.specs.Separation.{names, concerns, uses_buffer}
 use Rattle.model.specs.Turns.{in_its_turn, fills_buffer, clean_after}
 use Rattle.model.proofs.engine.Blocks.{not_whole}
 use Rattle.model.proofs.separation.Apart.{call_apart}
-use Rattle.model.proofs.separation.Alike.{call_four, Alike, AlikeAfter, reset_alike, command_alike}
+use Rattle.model.proofs.separation.Alike.{call_four, Alike, AlikeAfter, reset_alike, tick_alike, command_alike}
 
 -- ---- A command that names drive d and is no Copy: drive d is in its byte 1
 module _ (d : ℕ) (block : List ℕ) (on : names d block ≡ true) where
@@ -48,13 +48,15 @@ pub call_alike : (d : ℕ) → d < 4 → (clean : Bool) (s₁ s₂ : System) (ca
     → Alike d clean s₁ s₂ → AlikeAfter d (clean_after d clean call) s₁ s₂ call
 unfolding concerns in_its_turn clean_after
 call_alike d h clean s₁ s₂ Reset on fair alike = reset_alike d h s₁ s₂ alike.own
+call_alike d h clean s₁ s₂ Tick on fair alike = tick_alike d h clean s₁ s₂ alike
+call_alike d h clean s₁ s₂ Report on fair alike = absurd (false≢true on)
 call_alike d h clean s₁ s₂ (Command block given area) on fair alike =
     let may = named_turn d block on clean fair in
     let after : clean_after d clean (Command block given area) ≡ (clean || fills_buffer block given) = pick_true _ _ _ on in
     subst (λ (clean : Bool). AlikeAfter d clean s₁ s₂ (Command block given area)) (sym after)
     (named_alike d block on given area clean s₁ s₂ may.0 may.1 alike)
 
--- ---- For every other call: they stay alike; only a block that is not whole leaves the buffer for certain
+-- ---- For every other call: they stay alike; only a report and a block that is not whole leave the buffer for certain
 not_whole_buffer : (s : System) (block given area : List ℕ) → is_whole block ≡ false
     → (called s (Command block given area)).1.controller.buffer ≡ s.controller.buffer
 unfolding called left_by replied
@@ -62,8 +64,10 @@ not_whole_buffer s block given area none = ap (λ (r : Result). r.outcome.contro
 
 other_buffer : (d : ℕ) (clean : Bool) (s : System) (call : Call) → concerns d call ≡ false → clean_after d clean call ≡ true
     → (clean ≡ true) × ((called s call).1.controller.buffer ≡ s.controller.buffer)
-unfolding concerns clean_after
+unfolding concerns clean_after called left_by replied
 other_buffer d clean s Reset off is = absurd (true≢false off)
+other_buffer d clean s Tick off is = absurd (true≢false off)
+other_buffer d clean s Report off is = (is, refl)
 other_buffer d clean s (Command block given area) off is =
     let both = both_true clean _ (sym (pick-false (names d block) _ _ off) ∙ is) in
     (both.0, not_whole_buffer s block given area (not-true (is_whole block) both.1))

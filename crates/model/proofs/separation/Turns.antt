@@ -8,7 +8,7 @@ use Rattle.base.specs.Pick.{pick}
 use Rattle.base.proofs.Bools.{both_true}
 use Rattle.base.proofs.Decide.{pick_true, pick-false}
 use Rattle.model.specs.Block.{is_copy, is_whole}
-use Rattle.model.specs.Claim.{Call, Reset, Command}
+use Rattle.model.specs.Claim.{Call, Reset, Tick, Report, Command}
 use Rattle.model.specs.Separation.{names, concerns, calls_of, uses_buffer, excluded, may_stand, all_may_stand, SeparationExcluding, Separation}
 use Rattle.model.specs.Turns.{fills_buffer, clean_after, in_its_turn, in_turns, SeparationInTurns, reset_between, SeparationByResets}
 use Rattle.model.proofs.separation.Separated.{separated_where}
@@ -47,6 +47,8 @@ excluded_turn true false false clean none = or-true clean
 may_turn : (d : ℕ) (call : Call) (clean : Bool) → (concerns d call ≡ true → may_stand excluded call ≡ true) → in_its_turn d clean call ≡ true
 unfolding concerns may_stand excluded in_its_turn
 may_turn d Reset clean none = refl
+may_turn d Tick clean none = refl
+may_turn d Report clean none = refl
 may_turn d (Command block given area) clean none = excluded_turn (names d block) (uses_buffer block) (is_copy block) clean none
 
 none_turns : (d : ℕ) (calls : List Call) (clean : Bool) → all_may_stand excluded (calls_of d calls) ≡ true → in_turns d clean calls ≡ true
@@ -90,6 +92,8 @@ resets_turns : (d : ℕ) (calls : List Call) (alone clean : Bool) → (alone ≡
 unfolding reset_between in_turns in_its_turn clean_after
 resets_turns d [] alone clean is resets all = refl
 resets_turns d (Reset ∷ calls) alone clean is resets all = resets_turns d calls true true (λ e. refl) resets (rest_may d is_copy Reset calls all)
+resets_turns d (Tick ∷ calls) alone clean is resets all = resets_turns d calls alone clean is resets (rest_may d is_copy Tick calls all)
+resets_turns d (Report ∷ calls) alone clean is resets all = resets_turns d calls alone clean is resets (rest_may d is_copy Report calls all)
 resets_turns d (Command block given area ∷ calls) alone clean is resets all =
     command_turns d block given area calls (λ alone clean. resets_turns d calls alone clean) alone clean is resets all
 

@@ -30,7 +30,7 @@ use Rattle.model.specs.declared.verdict.Verdict.TheVariants.{Refused, Faulty, Pa
 use Rattle.model.specs.Block.{block_of, from_buffer}
 use Rattle.model.specs.Table.{table, unknown, row_for}
 use Rattle.model.specs.Record.{unless, unless_named, Effect, effect, Made}
-use Rattle.model.specs.Commands.{fill_of, format_drive, alternated, assign_alternate, transferred, read, write, do_free, do_track, do_sectors, as_effect, do_disk, carry_out}
+use Rattle.model.specs.Commands.{fill_of, format_drive, alternated, assign_alternate, transferred, read, write, do_free, do_track, do_sectors, as_effect, do_disk, arm_left, carry_out}
 use Rattle.model.specs.Engine.{view_of, obey}
 use Rattle.model.specs.Separation.{uses_buffer}
 use Rattle.model.proofs.engine.Rows.{none, also, each_row}
@@ -124,12 +124,17 @@ module _ (b : Block) (given : List ℕ) (entry : Drive) (x y image : List ℕ) w
     disk_same (TrackWork command) off = made_same x y _ _ (track_same command off)
     disk_same (SectorWork command) off = sectors_same command
 
+    -- the arm is left by what is the same
+    armed_same : (command : DiskCommand) (e f : Effect) → SameBut e f → SameBut (arm_left b p command e) (arm_left b p command f)
+    unfolding arm_left
+    armed_same command e f same = rw (same.ending, same.handed, same.image) (kept _ _ _ _ _)
+
   carried_same : (setting : Setting) (command : Command) → uses bit command ≡ false
       → SameBut (carry_out b setting given entry x image command) (carry_out b setting given entry y image command)
   unfolding carry_out uses
   carried_same setting (Free command) off = free_same command off
   carried_same Invalid (OnDisk command) off = kept _ _ _ _ _
-  carried_same (Valid p) (OnDisk command) off = disk_same p command off
+  carried_same (Valid p) (OnDisk command) off = armed_same p command _ _ (disk_same p command off)
   carried_same setting Unknown off = kept _ _ _ _ _
   carried_same setting Copy off = kept _ _ _ _ _
 

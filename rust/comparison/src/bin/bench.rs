@@ -169,7 +169,8 @@ impl Memory {
     fn command(&mut self, disk: &Disk, row: Row) -> [u8; 6] {
         let many = disk.many();
         match row {
-            Row::TestReady => disk.block(0x00, 0, 0),
+            Row::TestReady | Row::Tick => disk.block(0x00, 0, 0),
+            Row::Seek => disk.block(0x0B, self.address(disk, 1), 0),
             Row::ReadOne => disk.block(0x08, self.address(disk, 1), 1),
             Row::WriteOne => disk.block(0x0A, self.address(disk, 1), 1),
             Row::ReadMany => disk.block(0x08, self.address(disk, many), many as u8),
@@ -215,6 +216,10 @@ fn begin(engine: &mut impl Engine, disk: &Disk, memory: &mut Memory) {
 fn commands<'a>(engine: &'a mut impl Engine, disk: &'a Disk, row: Row) -> Run<'a, Memory> {
     Box::new(move |memory, calls| {
         for _ in 0..calls {
+            if let Row::Tick = row {
+                engine.tick();
+                continue;
+            }
             let command = memory.command(disk, row);
             execute(engine, disk, memory, &command);
             if let Row::Keep = row {
@@ -259,7 +264,7 @@ fn copy(disk: &Disk, row: Row) -> Option<Run<'_, Memory>> {
             }
         }),
         Row::Keep => copy_track(disk),
-        Row::TestReady | Row::CheckTrack => return None,
+        Row::TestReady | Row::Seek | Row::Tick | Row::CheckTrack => return None,
     };
     Some(run)
 }
@@ -449,6 +454,8 @@ impl Disk {
 #[derive(Clone, Copy)]
 enum Row {
     TestReady,
+    Seek,
+    Tick,
     ReadOne,
     WriteOne,
     ReadMany,
@@ -461,8 +468,10 @@ enum Row {
 
 /// Behind a keep the flags of IDs are not those of a format, until the drive is formatted: it comes
 /// just before that.
-const ROWS: [Row; 9] = [
+const ROWS: [Row; 11] = [
     Row::TestReady,
+    Row::Seek,
+    Row::Tick,
     Row::ReadOne,
     Row::WriteOne,
     Row::ReadMany,
@@ -474,8 +483,9 @@ const ROWS: [Row; 9] = [
 ];
 
 /// Floppies have no Check Track and no Assign Alternate.
-const FLOPPY_ROWS: [Row; 7] = [
+const FLOPPY_ROWS: [Row; 8] = [
     Row::TestReady,
+    Row::Seek,
     Row::ReadOne,
     Row::WriteOne,
     Row::ReadMany,
@@ -487,6 +497,8 @@ const FLOPPY_ROWS: [Row; 7] = [
 fn title(row: Row, disk: &Disk) -> String {
     match row {
         Row::TestReady => String::from("Test Ready"),
+        Row::Seek => String::from("Seek"),
+        Row::Tick => String::from("tick"),
         Row::ReadOne => String::from("Read 1"),
         Row::WriteOne => String::from("Write 1"),
         Row::ReadMany => format!("Read {}", disk.many()),

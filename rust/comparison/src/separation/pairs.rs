@@ -1,5 +1,5 @@
-//! Pairs of random lists that agree for one drive: in its first image, in the Resets, and in the
-//! commands that name it. Everything else is made for each list by itself.
+//! Pairs of random lists that agree for one drive: in its first image, in the Resets and ticks, and in
+//! the commands that name it. Everything else is made for each list by itself.
 
 use super::{excluded, fills_buffer, is_whole, names, Excluded, Rule, BIT_5};
 use crate::engine::{Call, Step};
@@ -13,7 +13,7 @@ const OWN_WEIGHT: u32 = 2_000;
 /// A drive and two lists that agree for it.
 pub struct Pair {
     pub drive: usize,
-    /// The Resets and the drive's commands, which both lists have.
+    /// The Resets, the ticks and the drive's commands, which both lists have.
     pub own: Vec<Step>,
     pub lists: [List; 2],
     /// Excluded commands that were left out, or lost their bit 5.
@@ -72,18 +72,24 @@ impl Pair {
     /// What one of the own calls is, where it is excluded.
     pub fn excluded(&self, step: &Step) -> Option<Excluded> {
         match &step.call {
-            Call::Reset => None,
             Call::Execute { block, .. } => excluded(self.drive, block),
+            Call::Reset | Call::Tick | Call::Report => None,
         }
     }
 }
 
-/// Resets, and commands that name the drive; how many excluded ones were left out or changed.
+/// Resets, ticks, and commands that name the drive; how many excluded ones were left out or changed. The
+/// ticks are beyond the number drawn.
 fn own_calls(mut caller: Caller, drive: usize, rule: Rule) -> (Vec<Step>, u64) {
     caller.weigh(drive, OWN_WEIGHT);
     let calls = 4 + caller.random.size_below(16);
-    let (mut own, mut left_out) = (Vec::new(), 0);
-    while own.len() < calls {
+    let (mut own, mut left_out) = (Vec::<Step>::new(), 0);
+    while own.iter().filter(|step| step.call != Call::Tick).count() < calls {
+        // Others' arms travel too, which this caller does not know.
+        if caller.is_time_for_tick() || caller.random.chance(15) {
+            own.push(caller.tick());
+            continue;
+        }
         if caller.random.chance(if rule == Rule::Turns { 20 } else { 5 }) {
             own.push(caller.reset());
             continue;
@@ -120,6 +126,7 @@ fn cleans(call: &Call) -> bool {
     match call {
         Call::Reset => true,
         Call::Execute { block, given } => fills_buffer(block, given),
+        Call::Tick | Call::Report => false,
     }
 }
 
@@ -127,8 +134,8 @@ fn cleans(call: &Call) -> bool {
 fn borrows_soon(drive: usize, own: &[Step]) -> bool {
     let mut soon = own.iter().map(|step| &step.call).take_while(|call| !cleans(call));
     soon.any(|call| match call {
-        Call::Reset => false,
         Call::Execute { block, .. } => excluded(drive, block).is_some(),
+        Call::Reset | Call::Tick | Call::Report => false,
     })
 }
 
@@ -144,9 +151,11 @@ fn weave(caller: Caller, drive: usize, own: &[Step], rule: Rule) -> Vec<Vec<Step
         // Before what makes the buffer clean is the place for a turn of others.
         let turn = if rule == Rule::Turns && next.is_some_and(cleans) { 2 * most } else { 0 };
         let calls = turn + weaver.caller.random.below(most + 1);
-        others.push((0..calls).map(|_| weaver.other(free)).collect());
-        if next == Some(&Call::Reset) {
-            weaver.caller.reset();
+        others.push((0..calls).map(|_| weaver.other(free, rule)).collect());
+        match next {
+            Some(Call::Reset) => drop(weaver.caller.reset()),
+            Some(Call::Tick) => drop(weaver.caller.tick()),
+            _ => {}
         }
     }
     others
@@ -168,8 +177,14 @@ impl Weaver {
         Weaver { drive, caller, strays }
     }
 
-    /// A command of another drive where it is free, else a block of a wrong length.
-    fn other(&mut self, free: bool) -> Step {
+    /// A command of another drive where it is free, else a block of a wrong length; sometimes a report.
+    fn other(&mut self, free: bool, rule: Rule) -> Step {
+        if self.caller.random.chance(5) {
+            return Step::of(Call::Report);
+        }
+        if rule == Rule::FreeTicks && self.caller.random.chance(5) {
+            return self.caller.tick();
+        }
         if !free || self.caller.random.chance(6) {
             return draw(&mut self.strays, change_length, |block| !is_whole(block));
         }

@@ -35,6 +35,9 @@ pub struct Reached {
     turns: u64,
     /// The same after a Write Buffer of the drive that did so.
     refills: u64,
+    /// Own calls that began while the drive's arm travelled, or while others' ways differed.
+    travelling: u64,
+    ways_apart: u64,
     now: Now,
 }
 
@@ -92,6 +95,8 @@ impl Reached {
             formats_apart: 0,
             turns: 0,
             refills: 0,
+            travelling: 0,
+            ways_apart: 0,
             now: Now::default(),
         }
     }
@@ -119,8 +124,14 @@ impl Reached {
                 self.apart += u64::from(!replace(&mut self.now.were_apart, true));
                 self.now.refilled |= fills_buffer(block, given);
             }
-            Call::Execute { .. } => {}
+            Call::Execute { .. } | Call::Tick | Call::Report => {}
         }
+    }
+
+    /// The ways of both lists, where it begins.
+    pub(super) fn ways(&mut self, drive: usize, [here, there]: [[i32; 4]; 2]) {
+        self.travelling += u64::from(here[drive] != 0);
+        self.ways_apart += u64::from(here != there);
     }
 
     /// It has ended.
@@ -157,6 +168,8 @@ impl Reached {
     /// Whether such calls have to come to it; else they must not.
     fn is_wanted(&self, whose: Whose, kind: Kind, event: Event) -> bool {
         let let_in = match event {
+            // After the first Reset no floppy's arm travels.
+            Event::Code(0x08) => kind == Kind::HardDisk,
             _ if whose == Whose::Others => true,
             Event::Good(COPY) => false,
             Event::Good(0x10) | Event::BitFive(_) => self.rule == Rule::Turns,
@@ -167,7 +180,7 @@ impl Reached {
 
     /// Totals by name, and how many there have to be at least for 100 pairs: half of what there are,
     /// or more, so that lists which reach little are noticed.
-    fn totals(&self) -> [(&'static str, u64, u64); 15] {
+    fn totals(&self) -> [(&'static str, u64, u64); 19] {
         let turns = self.rule == Rule::Turns;
         [
             ("pairs", self.pairs, 100),
@@ -175,8 +188,11 @@ impl Reached {
             ("pairs with other bytes", self.bytes, 30),
             ("pairs with other numbers", self.numbers, 60),
             ("pairs with buffers apart", self.apart, if turns { 30 } else { 40 }),
-            ("own calls", self.own.calls, 600),
+            ("own calls", self.own.calls, 730),
             ("Resets among them", self.own.resets, if turns { 130 } else { 35 }),
+            ("ticks among them", self.own.ticks, if turns { 145 } else { 165 }),
+            ("own calls while it travels", self.travelling, if turns { 14 } else { 25 }),
+            ("while others' ways differ", self.ways_apart, if turns { 70 } else { 80 }),
             ("own good formats", self.good(&FORMATS), if turns { 70 } else { 100 }),
             ("formats with buffers apart", self.formats_apart, if turns { 15 } else { 45 }),
             ("own good Reads and Writes", self.good(&[0x08, 0x0A]), if turns { 60 } else { 85 }),
@@ -184,6 +200,7 @@ impl Reached {
             ("behind a Write Buffer", self.refills, if turns { 2 } else { 0 }),
             ("excluded, left out", self.left_out, if turns { 70 } else { 180 }),
             ("other calls", self.others.calls, if turns { 2_400 } else { 1_200 }),
+            ("reports", self.others.reports, if turns { 135 } else { 80 }),
             ("blocks of a wrong length", self.others.no_block, if turns { 450 } else { 100 }),
         ]
     }

@@ -36,13 +36,31 @@ impl Lent<'_> {
 
 pub type Command = fn(&mut Controller, Lent) -> Answer;
 pub type Reset = fn(&mut Controller, [&[u8]; 4]) -> Answer;
+pub type Tick = fn(&mut Controller);
+pub type Report = fn(&Controller) -> [i32; 4];
 
-/// Commands of six bytes, or of ten, or Reset, are done in another way.
+/// Commands of six bytes, or of ten, or Reset, tick or report, are done in another way.
 pub struct Wrong {
     pub engine: Controller,
     pub six: Command,
     pub ten: Command,
     pub reset: Reset,
+    pub tick: Tick,
+    pub report: Report,
+}
+
+impl Wrong {
+    /// Nothing is done in another way.
+    pub fn right(record: &Controller) -> Wrong {
+        Wrong {
+            engine: record.clone(),
+            six: as_it_should,
+            ten: as_it_should,
+            reset: Controller::reset,
+            tick: Controller::tick,
+            report: Controller::report,
+        }
+    }
 }
 
 impl Engine for Wrong {
@@ -63,6 +81,14 @@ impl Engine for Wrong {
             10 => (self.ten)(&mut self.engine, lent),
             _ => lent.right(&mut self.engine),
         }
+    }
+
+    fn tick(&mut self) {
+        (self.tick)(&mut self.engine);
+    }
+
+    fn report(&self) -> [i32; 4] {
+        (self.report)(&self.engine)
     }
 
     fn record(&self) -> Controller {

@@ -44,6 +44,10 @@ returns-10 : tie.Need-returns-10
 unfolding judged in_order
 returns-10 c = search (rules, decide)
 
+returns-11 : tie.Need-returns-11
+unfolding judged in_order
+returns-11 c = search (rules, decide)
+
 pub order_spec : {M : Type 1} → statement M
 order_spec =
     tie.close
@@ -57,4 +61,5 @@ order_spec =
     returns-7
     returns-8
     returns-9
-    returns-10)
+    returns-10
+    returns-11)

@@ -1,5 +1,5 @@
-use Rattle.copies.proofs.Ends.{copies_on, can_end, copy_leaves}
 use borrow.Author.Rules.{rules}
+use Rattle.copies.proofs.Ends.{copies_on, can_end, can_rest, copy_leaves}
 use Rattle.copies.proofs.copy.copy.Statement.{statement}
 use Rattle.copies.proofs.copy.copy.Tie as tie
 
@@ -18,6 +18,12 @@ finish-copy-requires c κs =
     let n = s.before.before.before.before.before.before in
     can_end _ _ _ _ n.before.before.before.before.before.before.before.before.before.before.requires.0 _ _ _ _ _ n.count_of.ensures.0 s.copy-sectors.ensures
 
+arms-of-requires : tie.Need-arms-of-requires
+arms-of-requires c κs =
+    let s = c.before.before.before.before.before.before.before.before.before.before.before in
+    let n = s.before.before.before.before.before.before in
+    can_rest _ _ _ _ n.before.before.before.before.before.before.before.before.before.before.requires.0 _ _ _ _ _ n.count_of.ensures.0 s.copy-sectors.ensures
+
 same_length : tie.Need-same-length
 same_length c = search rules
 
@@ -35,9 +41,9 @@ same-length-5 c = search rules
 
 returns : tie.Need-returns
 returns c =
-    let s = c.before.before.before.before.before.before.before.before.before.before.before in
+    let s = c.before.before.before.before.before.before.before.before.before.before.before.before in
     let n = s.before.before.before.before.before.before in
-    copy_leaves _ _ _ _ n.before.before.before.before.before.before.before.before.before.before.requires.0 _ _ _ _ _ _ _ n.count_of.ensures.0 s.copy-sectors.ensures c.finish-copy.ensures
+    copy_leaves _ _ _ _ n.before.before.before.before.before.before.before.before.before.before.requires.0 _ _ _ _ _ _ _ _ n.count_of.ensures.0 s.copy-sectors.ensures c.before.finish-copy.ensures c.arms_of.ensures
 
 pub copy_spec : {M : Type 1} → statement M
 copy_spec =
@@ -46,6 +52,7 @@ copy_spec =
     count-of-requires
     copy-sectors-requires
     finish-copy-requires
+    arms-of-requires
     same_length
     same-length-2
     same-length-3

@@ -1,5 +1,5 @@
-use Rattle.copies.proofs.Obeys.{none_copies, one_copies, both_copy}
 use borrow.Author.Rules.{rules}
+use Rattle.copies.proofs.Obeys.{none_copies, one_copies, both_copy}
 use Rattle.copies.proofs.obey.copy_with.Statement.{statement}
 use Rattle.copies.proofs.obey.copy_with.Tie as tie
 
@@ -9,6 +9,9 @@ enum_told c = search rules
 failed-requires : tie.Need-failed-requires
 failed-requires c κs = search rules
 
+unmoved-requires : tie.Need-unmoved-requires
+unmoved-requires c κs = search rules
+
 enum-known-from : tie.Need-enum-known-from
 enum-known-from c = search rules
 
@@ -17,6 +20,9 @@ enum-told-2 c = search rules
 
 failed-requires-2 : tie.Need-failed-requires-2
 failed-requires-2 c κs = search rules
+
+unmoved-requires-2 : tie.Need-unmoved-requires-2
+unmoved-requires-2 c κs = search rules
 
 enum-known-to : tie.Need-enum-known-to
 enum-known-to c = search rules
@@ -28,10 +34,10 @@ copy-requires c κs =
     (a.requires.0.both _ _ c.before.before.before.before.before.before.before.before.before.from.given.1 t.to.given.1, a.requires.1)
 
 returns : tie.Need-returns
-returns c = none_copies _ _ _ _ _ _ _ c.before.enum_told.given.1 c.failed.ensures
+returns c = none_copies _ _ _ _ _ _ c.unmoved.ensures _ _ c.before.before.enum_told.given.1 c.before.failed.ensures
 
 returns-2 : tie.Need-returns-2
-returns-2 c = one_copies _ _ _ _ _ _ _ _ c.before.before.before.before.from.given.1 c.before.enum-told2.given.1 c.failed2.ensures
+returns-2 c = one_copies _ _ _ _ _ _ c.unmoved2.ensures _ _ _ c.before.before.before.before.before.from.given.1 c.before.before.enum-told2.given.1 c.before.failed2.ensures
 
 same_length : tie.Need-same-length
 same_length c = search rules
@@ -59,9 +65,11 @@ copy_with_spec =
     (tie.spec
     enum_told
     failed-requires
+    unmoved-requires
     enum-known-from
     enum-told-2
     failed-requires-2
+    unmoved-requires-2
     enum-known-to
     copy-requires
     returns

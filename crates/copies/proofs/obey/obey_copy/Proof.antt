@@ -1,8 +1,8 @@
+use borrow.Author.Rules.{rules}
 use Prim.Native.Nat.{◌<◌}
 use native.Mathlib.Omega.{arith}
 use Rattle.checks.proofs.Views.{view_legal, view_at_least_128}
 use Rattle.copies.proofs.Obeys.{copy_below, copyable, copy_refused, copy_failed, copy_carried}
-use borrow.Author.Rules.{rules}
 use Rattle.copies.proofs.obey.obey_copy.Statement.{statement}
 use Rattle.copies.proofs.obey.obey_copy.Tie as tie
 
@@ -25,6 +25,9 @@ enum-known-verdict c = search rules
 refused-requires : tie.Need-refused-requires
 refused-requires c κs = search rules
 
+unmoved-requires : tie.Need-unmoved-requires
+unmoved-requires c κs = search rules
+
 enum-known-verdict-2 : tie.Need-enum-known-verdict-2
 enum-known-verdict-2 c = search rules
 
@@ -34,6 +37,9 @@ failed-requires c κs =
     let a = j.before.before.before.before.before.before.before.before.before.before.before.before.before.before.before.before.before.before in
     let fits = copy_below _ _ _ a.requires.0.from a.requires.0.to _ j.judge-copy.ensures _ _ c.before.verdict2.given.1 in
     (a.requires.0.from.drive, fits.0, fits.1, fits.2)
+
+unmoved-requires-2 : tie.Need-unmoved-requires-2
+unmoved-requires-2 c κs = search rules
 
 enum_told : tie.Need-enum-told
 enum_told c = search rules
@@ -62,9 +68,9 @@ same-length-4 c = search rules
 
 returns : tie.Need-returns
 returns c =
-    let j = c.before.before.before.before in
+    let j = c.before.before.before.before.before in
     let a = j.before.before.before.before.before.before.before.before.before.before.before.before.before.before.before.before.before.before in
-    copy_refused _ _ _ _ a.requires.0 (extra a) _ _ j.before.before.before.before.before.before.view-on.ensures j.before.view-on2.ensures _ j.judge-copy.ensures _ _ _ c.before.before.verdict.given.1 c.refused.ensures
+    copy_refused _ _ _ _ a.requires.0 (extra a) _ _ j.before.before.before.before.before.before.view-on.ensures j.before.view-on2.ensures _ j.judge-copy.ensures _ _ _ c.unmoved.ensures _ c.before.before.before.verdict.given.1 c.before.refused.ensures
 
 same-length-5 : tie.Need-same-length-5
 same-length-5 c = search rules
@@ -80,9 +86,9 @@ same-length-8 c = search rules
 
 returns-2 : tie.Need-returns-2
 returns-2 c =
-    let j = c.before.before.before.before in
+    let j = c.before.before.before.before.before in
     let a = j.before.before.before.before.before.before.before.before.before.before.before.before.before.before.before.before.before.before in
-    copy_failed _ _ _ _ a.requires.0 (extra a) _ _ j.before.before.before.before.before.before.view-on.ensures j.before.view-on2.ensures _ j.judge-copy.ensures _ _ _ _ c.before.before.verdict2.given.1 c.failed.ensures
+    copy_failed _ _ _ _ a.requires.0 (extra a) _ _ j.before.before.before.before.before.before.view-on.ensures j.before.view-on2.ensures _ j.judge-copy.ensures _ _ _ c.unmoved2.ensures _ _ c.before.before.before.verdict2.given.1 c.before.failed.ensures
 
 same-length-9 : tie.Need-same-length-9
 same-length-9 c = search rules
@@ -115,8 +121,10 @@ obey_copy_spec =
     judge-copy-requires
     enum-known-verdict
     refused-requires
+    unmoved-requires
     enum-known-verdict-2
     failed-requires
+    unmoved-requires-2
     enum_told
     copy-with-requires
     same_length

@@ -1,7 +1,7 @@
 use mathlib.Core.Path.{◌∙◌, ap}
 use Rattle.model.specs.declared.table.Command.{Command}
 use Rattle.model.specs.declared.table.Command.TheVariants.{OnDisk}
-use Rattle.dispatch.proofs.Admits.{track_admits, sector_admits}
+use Rattle.dispatch.proofs.Admits.{arm_admits, track_admits, sector_admits}
 use Rattle.dispatch.proofs.Carries.{on_arm, on_tracks_lem, on_sectors_lem}
 use borrow.Author.Rules.{rules}
 use Rattle.dispatch.proofs.obey.do_disk.Statement.{statement}
@@ -11,7 +11,9 @@ enum-known-command : tie.Need-enum-known-command
 enum-known-command c = search rules
 
 do-arm-requires : tie.Need-do-arm-requires
-do-arm-requires c κs = search rules
+do-arm-requires c κs =
+    let a = c.before.before.before.before.before.before.before in
+    (a.requires.0.block, arm_admits a.args.image.now a.requires.0 a.requires.2 _ (a.requires.1 ∙ ap {B = Command} OnDisk c.before.command.given.1))
 
 enum-known-command-2 : tie.Need-enum-known-command-2
 enum-known-command-2 c = search rules

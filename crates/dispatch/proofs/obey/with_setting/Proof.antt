@@ -7,8 +7,8 @@ use Rattle.dispatch.proofs.obey.with_setting.Tie as tie
 enum-known-setting : tie.Need-enum-known-setting
 enum-known-setting c = search rules
 
-do-disk-requires : tie.Need-do-disk-requires
-do-disk-requires c κs =
+do-armed-requires : tie.Need-do-armed-requires
+do-armed-requires c κs =
     let a = c.before.before.before.before.before.before.before.before.before.before in
     (a.requires.0, a.requires.1, a.requires.2 ∙ c.before.before.before.before.setting.given.1, a.requires.3)
 
@@ -28,7 +28,7 @@ same-length-3 : tie.Need-same-length-3
 same-length-3 c = search rules
 
 returns : tie.Need-returns
-returns c = valid_carries _ _ _ _ _ _ _ _ _ _ c.before.before.before.before.before.before.before.before.before.before.before.setting.given.1 c.before.before.before.before.before.before.do-disk.ensures
+returns c = valid_carries _ _ _ _ _ _ _ _ _ _ c.before.before.before.before.before.before.before.before.before.before.before.setting.given.1 c.before.before.before.before.before.before.do-armed.ensures
 
 returns-2 : tie.Need-returns-2
 returns-2 c = unset_carries _ _ _ _ _ _ _ _ _ c.before.enum_told.given.1 c.failed.ensures
@@ -38,7 +38,7 @@ with_setting_spec =
     tie.close
     (tie.spec
     enum-known-setting
-    do-disk-requires
+    do-armed-requires
     enum_told
     failed-requires
     same_length

@@ -1,5 +1,5 @@
 use borrow.Author.Rules.{rules}
-use Rattle.drives.proofs.Initials.{initialize_failed, initialize_taken}
+use Rattle.drives.proofs.Initials.{initialize_failed, initialize_held, initialize_other}
 use Rattle.drives.proofs.initialize.initialize.Statement.{statement}
 use Rattle.drives.proofs.initialize.initialize.Tie as tie
 
@@ -34,11 +34,28 @@ good-requires c κs = search rules
 
 returns-2 : tie.Need-returns-2
 returns-2 c =
-    let tried = c.before.before.before in
+    let kept = c.before in
+    let tried = kept.before.before in
     let held = tried.before.before in
     let s = held.before in
-    initialize_taken _ _ _ _ _ _ _ _ _ _ s.before.config-in.ensures s.medium-of.ensures held.label-holds.ensures
-    tried.before.may-come-in.ensures tried.either.ensures c.before.before.if1.false c.good2.ensures
+    initialize_held _ _ _ _ _ _ _ _ _ _ s.before.config-in.ensures s.medium-of.ensures held.label-holds.ensures
+    tried.before.may-come-in.ensures tried.either.ensures kept.before.if1.false kept.if2.true c.good2.ensures
+
+arrive-requires : tie.Need-arrive-requires
+arrive-requires c κs = search rules
+
+good-requires-2 : tie.Need-good-requires-2
+good-requires-2 c κs = search rules
+
+returns-3 : tie.Need-returns-3
+returns-3 c =
+    let other = c.before.before in
+    let tried = other.before.before in
+    let held = tried.before.before in
+    let s = held.before in
+    initialize_other _ _ _ _ _ _ _ _ _ _ s.before.config-in.ensures s.medium-of.ensures held.label-holds.ensures
+    tried.before.may-come-in.ensures tried.either.ensures other.before.if1.false other.if2.false _ c.before.arrive.ensures
+    c.good3.ensures
 
 pub initialize_spec : {M : Type 1} → statement M
 initialize_spec =
@@ -52,4 +69,7 @@ initialize_spec =
     failed-requires
     returns
     good-requires
-    returns-2)
+    returns-2
+    arrive-requires
+    good-requires-2
+    returns-3)

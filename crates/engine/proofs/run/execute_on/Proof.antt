@@ -1,7 +1,6 @@
-use Rattle.base.proofs.Bools.{test_on}
-use Rattle.model.specs.Block.{block_of}
-use Rattle.engine.proofs.Executes.{whole_two, execute_refused}
 use borrow.Author.Rules.{rules}
+use Rattle.base.proofs.Bools.{test_on}
+use Rattle.engine.proofs.Executes.{execute_refused}
 use Rattle.engine.proofs.run.execute_on.Statement.{statement}
 use Rattle.engine.proofs.run.execute_on.Tie as tie
 
@@ -16,12 +15,6 @@ returns c = execute_refused _ _ _ _ _ c.before.before.is_whole.ensures _ c.befor
 
 run-block-requires : tie.Need-run-block-requires
 run-block-requires c κs = (test_on _ _ c.before.before.before.before.before.before.before.is_whole.ensures c.before.before.before.before.before.before.if1.false, search rules)
-
-shared-slice-read-drive : tie.Need-shared-slice-read-drive
-shared-slice-read-drive c = whole_two _ (test_on _ _ c.before.before.before.before.before.before.before.before.before.before.before.before.before.before.before.before.before.before.before.is_whole.ensures c.before.before.before.before.before.before.before.before.before.before.before.before.before.before.before.before.before.before.if1.false)
-
-with-drive-requires : tie.Need-with-drive-requires
-with-drive-requires c κs = search rules
 
 same_length : tie.Need-same-length
 same_length c = search rules
@@ -39,8 +32,7 @@ same-length-5 : tie.Need-same-length-5
 same-length-5 c = search rules
 
 returns-2 : tie.Need-returns-2
-unfolding block_of
-returns-2 c = rw c.with-drive.ensures c.before.before.before.before.before.before.before.before.before.before.before.before.before.before.run-block.ensures
+returns-2 c = search rules
 
 pub execute_on_spec : {M : Type 1} → statement M
 execute_on_spec =
@@ -50,8 +42,6 @@ execute_on_spec =
     bare-answer-requires
     returns
     run-block-requires
-    shared-slice-read-drive
-    with-drive-requires
     same_length
     same-length-2
     same-length-3

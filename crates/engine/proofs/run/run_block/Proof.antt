@@ -1,7 +1,7 @@
+use borrow.Author.Rules.{rules}
 use mathlib.Core.Path.{refl, sym, ◌∙◌}
 use native.Mathlib.Omega.{arith}
-use Rattle.engine.proofs.Executes.{block_formed, copy_formed, is_six, is_ten, named_copy, command_left, execute_copy, execute_one}
-use borrow.Author.Rules.{rules}
+use Rattle.engine.proofs.Executes.{block_formed, copy_formed, is_six, is_ten, command_left, execute_copy, execute_one}
 use Rattle.engine.proofs.run.run_block.Statement.{statement}
 use Rattle.engine.proofs.run.run_block.Tie as tie
 
@@ -37,8 +37,7 @@ same-length-5 c = search rules
 returns : tie.Need-returns
 returns c =
     let d = c.before.before.before.before.before.before.before.before.before.before.before.before.before.before.before.before in
-    rw (← named_copy _ _ d.decode-copy.ensures)
-    (execute_copy _ _ _ _ _ (sym d.before.before.before.before.before.before.before.before.before.before.before.requires.0) refl d.before.before.is-copy.ensures d.before.if1.true _ d.decode-copy.ensures _ _ c.before.before.before.before.before.before.before.before.before.before.run-copy.ensures)
+    execute_copy _ _ _ _ _ (sym d.before.before.before.before.before.before.before.before.before.before.before.requires.0) refl d.before.before.is-copy.ensures d.before.if1.true _ d.decode-copy.ensures _ _ c.before.before.before.before.before.before.before.before.before.before.run-copy.ensures
 
 decode-requires : tie.Need-decode-requires
 decode-requires c κs = is_six _ (sym c.before.before.before.before.before.before.before.before.before.before.requires.0) c.before.is-copy.ensures refl c.if1.false
@@ -50,6 +49,11 @@ on-images-requires : tie.Need-on-images-requires
 on-images-requires c κs =
     let d = c.before.before.before.before.before.before.before in
     (block_formed _ _ d.decode.ensures (λ i. omega (arith, d.before.before.before.before.before.before.before.before.before.before.shared-slice-known.given i)), search rules)
+
+with-drive-requires : tie.Need-with-drive-requires
+with-drive-requires c κs =
+    let d = c.before.before.before.before.before.before.before.before.before.before.before.before.before.before.before.before.before.before.before.before.before.before in
+    (block_formed _ _ d.decode.ensures (λ i. omega (arith, d.before.before.before.before.before.before.before.before.before.before.shared-slice-known.given i))).drive
 
 same-length-6 : tie.Need-same-length-6
 same-length-6 c = search rules
@@ -71,11 +75,10 @@ same-length-11 c = search rules
 
 returns-2 : tie.Need-returns-2
 returns-2 c =
-    let o = c.before.before.before.before.before.before.before.before.before.before.before.before in
+    let o = c.before.before.before.before.before.before.before.before.before.before.before.before.before.before.before in
     let d = o.before.before.before.before.before.before.before.before in
-    rw (← d.decode.ensures)
-    (execute_one _ _ _ _ _ (sym d.before.before.before.before.before.before.before.before.before.before.before.requires.0) refl d.before.before.is-copy.ensures d.before.if1.false _ d.decode.ensures _
-    (command_left _ _ _ _ _ _ o.before.before.before.before.before.before.before.drive-at.ensures _ o.on-images.ensures _ refl))
+    execute_one _ _ _ _ _ (sym d.before.before.before.before.before.before.before.before.before.before.before.requires.0) refl d.before.before.is-copy.ensures d.before.if1.false _ d.decode.ensures _
+    (command_left _ _ _ _ _ _ o.before.before.before.before.before.before.before.drive-at.ensures _ o.on-images.ensures _ c.with-drive.ensures)
 
 pub run_block_spec : {M : Type 1} → statement M
 run_block_spec =
@@ -93,6 +96,7 @@ run_block_spec =
     decode-requires
     drive-at-requires
     on-images-requires
+    with-drive-requires
     same-length-6
     same-length-7
     same-length-8
