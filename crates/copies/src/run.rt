@@ -21,9 +21,9 @@ pub fn run_copy(
     image3: &mut [u8],
 ) -> Ending
     requires { IsCopy k × (length buffer.old ≡ 512) }
-    ensures { CopyRan k (record { buffer = buffer.entry.now; drives = drives })
+    ensures { CopyRan k (record { buffer = buffer.old; drives = drives })
         (images_of image0.old image1.old image2.old image3.old)
-        (record { controller = record { buffer = buffer.exit.now; drives = set drives k.from.drive result.entry }; answer = result.answer })
+        (record { controller = record { buffer = buffer.new; drives = set drives k.from.drive result.entry }; answer = result.answer })
         (images_of image0.new image1.new image2.new image3.new) }
 {
     let from = k.from;

@@ -65,13 +65,13 @@ fn run_block(
     requires { (is_whole block.now ≡ true) × (length buffer.old ≡ 512) }
     ensures { result_now (record {
       controller = record {
-        buffer = buffer.exit.now;
+        buffer = buffer.new;
         drives = set drives (block_of block.now).drive result.entry;
       };
       answer = result.answer;
     })
         area.new (images_of image0.new image1.new image2.new image3.new)
-        ≡ execute (record { buffer = buffer.entry.now; drives = drives }) block.now given.now area.old
+        ≡ execute (record { buffer = buffer.old; drives = drives }) block.now given.now area.old
         (images_of image0.old image1.old image2.old image3.old) }
 {
     if is_copy(block) {
@@ -97,9 +97,9 @@ pub fn execute_on(
     image2: &mut [u8],
     image3: &mut [u8],
 ) -> Ran
-    ensures { result_now (record { controller = record { buffer = buffer.exit.now; drives = result.drives }; answer = result.answer })
+    ensures { result_now (record { controller = record { buffer = buffer.new; drives = result.drives }; answer = result.answer })
         area.new (images_of image0.new image1.new image2.new image3.new)
-        ≡ execute (record { buffer = buffer.entry.now; drives = drives }) block.now given.now area.old
+        ≡ execute (record { buffer = buffer.old; drives = drives }) block.now given.now area.old
         (images_of image0.old image1.old image2.old image3.old) }
 {
     if !is_whole(block) {
