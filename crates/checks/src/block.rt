@@ -45,6 +45,8 @@ fn fields(opcode: u8, high: u8, middle: u8, low: u8, extra: u8, control: u8) -> 
     }
 }
 
+// A call: in line it costs every command some 20 instructions more, as LLVM then spills.
+#[inline(never)]
 pub fn decode(bytes: &[u8]) -> Block
     requires { length bytes.now ≡ 6 }
     ensures { result ≡ block_of bytes.now }

@@ -210,6 +210,8 @@ pub fn order(at: Lba, hits: Hits) -> Verdict
 }
 
 // A command of a block of six bytes, up to its own checks.
+// In line first, so that LLVM stops at the first hit where it can, and does not make all tests at once.
+#[inline(always)]
 pub fn judge(row: Row, b: Block, view: View, given: usize, area: usize) -> Verdict
     requires { Says row (row_for b.opcode) × Legal view.setting × WellFormed b }
     ensures { result ≡ judge b view given area }

@@ -22,6 +22,8 @@ pub fn fresh(image0: &[u8], image1: &[u8], image2: &[u8], image3: &[u8]) -> Cont
 }
 
 // Reset answers zeros.
+// In line first, so that the outcome stands on the stack once and not twice.
+#[inline(always)]
 pub fn reset(image0: &[u8], image1: &[u8], image2: &[u8], image3: &[u8]) -> Outcome
     ensures { result ≡ reset_of (images_of image0.now image1.now image2.now image3.now) }
 {

@@ -86,6 +86,7 @@ fn run_block(
 }
 
 // A command: any block, given data, data area and images. The buffer is lent, so that no call copies it.
+#[inline(always)]
 pub fn execute_on(
     drives: [Drive; 4],
     buffer: &mut [u8; 512],

@@ -11,6 +11,7 @@ use engine::run::execute_on;
 use model::record::{Answer, Controller};
 
 // A command: any record, block, given data, data area and images: two hard disks, then two floppies.
+#[inline(always)]
 #[unsafe(no_mangle)]
 pub extern "C" fn lanthewg_execute(
     c: &mut Controller,

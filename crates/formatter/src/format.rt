@@ -33,6 +33,8 @@ fn write_fill(dst: &mut [u8], fill: &[u8], one: bool)
 }
 
 // A slot, whole: the bytes of its ID, then its data.
+// In line first: the ID is then one store in the object code.
+#[inline(always)]
 fn write_slot(slot: &mut [u8], id: &[u8], fill: &[u8], one: bool)
     requires { (length slot.old ≡ length id.now + length fill.now) × (one ≡ one_byte fill.now) }
     ensures { slot.new ≡ id.now ++ fill.now }

@@ -23,7 +23,7 @@ pub struct Size {
 }
 
 // By byte 4 of the configuration.
-const SIZES: [Size; 3] = [
+static SIZES: [Size; 3] = [
     Size {
         bytes: 128,
         sectors: 16,

@@ -58,6 +58,8 @@ fn read_part(image: &[u8], p: Params, a: Lba, n: usize, places: &mut [u8]) -> Do
 }
 
 // n sectors in address order to the front of the data area, track after track; the first failing one ends it.
+// A call: else LLVM puts it in line four times for the end of a Copy, which reads one sector.
+#[inline(never)]
 pub fn read_sectors(image: &[u8], p: Params, a: Lba, n: usize, area: &mut [u8]) -> Done
     requires { Fits p image.now × (a.0 + n ≤ address_count p) × (n * p.size ≤ length area.old) }
     ensures { HasRead p n a image.now result area.old area.new }

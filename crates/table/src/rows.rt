@@ -51,7 +51,7 @@ const UNKNOWN: Row = Row {
     gives: Data::Nothing,
 };
 
-const TABLE: [Row; 18] = [
+static TABLE: [Row; 18] = [
     Row {
         command: Command::OnDisk(DiskCommand::ArmWork(ArmCommand::TestReady)),
         checks: ON_DRIVE,
