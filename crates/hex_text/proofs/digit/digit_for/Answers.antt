@@ -3,10 +3,8 @@ use native.Mathlib.Omega.{arith}
 use mathlib.Core.Path.{sym}
 use Rattle.hex_text.proofs.digit.digit_for.Goals as goal
 
--- src/digit.rt:37:9
 pub returns-then-value-lt10 : goal.returns-then-value-lt10
 returns-then-value-lt10 c = sym (digit_decimal _ (omega arith))
 
--- src/digit.rt:32:1
 pub returns : goal.returns
 returns c = sym (digit_letter _ (omega arith))

@@ -3,30 +3,23 @@ use native.Mathlib.Omega.{arith}
 use mathlib.Core.Path.{sym}
 use Rattle.hex_text.proofs.digit.value_of.Goals as goal
 
--- src/digit.rt:11:9
 pub returns-then-c-lt48 : goal.returns-then-c-lt48
 returns-then-c-lt48 c = sym (value_below _ (omega arith))
 
--- src/digit.rt:14:9
 pub returns-then-c-le57 : goal.returns-then-c-le57
 returns-then-c-le57 c = sym (value_decimal _ (omega arith) (omega arith))
 
--- src/digit.rt:17:9
 pub returns-then-c-lt65 : goal.returns-then-c-lt65
 returns-then-c-lt65 c = sym (value_past_decimal _ (omega arith) (omega arith))
 
--- src/digit.rt:20:9
 pub returns-then-c-le70 : goal.returns-then-c-le70
 returns-then-c-le70 c = sym (value_upper _ (omega arith) (omega arith))
 
--- src/digit.rt:23:9
 pub returns-then-c-lt97 : goal.returns-then-c-lt97
 returns-then-c-lt97 c = sym (value_past_upper _ (omega arith) (omega arith))
 
--- src/digit.rt:26:9
 pub returns-then-c-le102 : goal.returns-then-c-le102
 returns-then-c-le102 c = sym (value_lower _ (omega arith) (omega arith))
 
--- src/digit.rt:7:1
 pub returns : goal.returns
 returns c = sym (value_past_lower _ (omega arith))

@@ -2,22 +2,18 @@ use Rattle.hex_text.proofs.Characters.{accepted_bad, accept_none, accept_small, 
 use mathlib.Core.Path.{sym}
 use Rattle.hex_text.proofs.line.accept.Goals as goal
 
--- src/line.rt:71:9
 pub returns-then-line : goal.returns-then-line
 returns-then-line c = (sym (accepted_bad _ _ _ c.if-line.true), c.requires)
 
--- src/line.rt:75:9
 pub returns-then-value-eq16 : goal.returns-then-value-eq16
 returns-then-value-eq16 c =
     accept_none _ _ _ _ _ c.if-line.false c.requires
     c.value_of-value.ensures c.if-value-eq16.true c.spoilt.ensures
 
--- src/line.rt:77:5
 pub take_value-requires : goal.take_value-requires
 take_value-requires c =
     (c.requires, accept_small _ _ c.value_of-value.ensures c.if-value-eq16.false)
 
--- src/line.rt:66:1
 pub returns : goal.returns
 returns c =
     accept_digit _ _ _ _ _

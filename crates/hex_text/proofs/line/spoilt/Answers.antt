@@ -2,7 +2,6 @@ use Rattle.hex_text.specs.Line.{spoilt_line}
 use mathlib.Core.Path.{refl}
 use Rattle.hex_text.proofs.line.spoilt.Goals as goal
 
--- src/line.rt:31:1
 pub returns : goal.returns
 unfolding spoilt_line
 returns c = refl
