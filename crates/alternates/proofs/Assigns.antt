@@ -27,16 +27,15 @@ use Rattle.keeping.specs.Keep.{keep_code, kept}
 use Rattle.model.specs.declared.block.Block.{Block}
 use Rattle.model.specs.declared.record.Drive.{Drive}
 use Rattle.model.specs.declared.record.Ending.{Ending}
-use Rattle.model.specs.declared.verdict.Verdict.{Verdict}
-use Rattle.model.specs.declared.verdict.Verdict.TheVariants.{Refused, Faulty, Passed}
+use Rattle.model.specs.Verdicts.{Verdict, Refused, Faulty, Passed}
 use Rattle.model.specs.Block.{keeps, alternate_of}
 use Rattle.model.specs.Checks.{Test, on, judged}
-use Rattle.model.specs.Record.{refused, failed, good, unless, unless_named, Made, made}
+use Rattle.model.specs.Record.{failed, good, unless, unless_named, Made, made}
 use Rattle.model.specs.Commands.{fill_of, plain_fill, made_at, check_tests, assign_tests, assigned, missing_in, alternated, assign_alternate}
 use Rattle.model.specs.Premises.{address_limit}
 use Rattle.model.proofs.engine.Assignable.{assignable, alternate_in}
 use Rattle.model.proofs.engine.Judged.{judged_hit, judged_on, fault_in, fault_none}
-use Rattle.endings.proofs.Verdicts.{ends_refused, ends_faulty}
+use Rattle.endings.proofs.Verdicts.{ends_faulty}
 use Rattle.formats.proofs.Makings.{fill_lent}
 
 -- the alternate track is of this drive
@@ -129,20 +128,20 @@ module _ (p : Params) (first : ℕ) (a alternate : Lba) (image : List ℕ) (verd
 
   -- a fault gives the block's address, or the alternate's, which is looked at only where the first byte is at most 1Fh
   pub fault_below : (m : ℕ) → a.0 < m → (first ≤ 0x1F → alternate.0 < m) → (code : ℕ) (at : Lba) → verdict ≡ Faulty code at
-      → (code < 0x80) × (at.0 < m)
+      → at.0 < m
   unfolding assign_tests
   fault_below m ha hb code at e =
-      let P : ℕ → Lba → Type 0 = λ k l. (k < 0x80) × (l.0 < m) in
-      fault_in P code at _ _ _ _ (omega arith, ha)
+      let P : ℕ → Lba → Type 0 = λ k l. l.0 < m in
+      fault_in P code at _ _ _ _ ha
       (λ z.
       let h = hb (ltb-false _ _ z) in
-      fault_in P code at _ _ _ _ (omega arith, h)
-      (λ _. fault_in P code at _ _ _ _ (omega arith, ha)
-      (λ _. fault_in P code at _ _ _ _ (omega arith, ha)
-      (λ _. fault_in P code at _ _ _ _ (omega arith, ha)
-      (λ _. fault_in P code at _ _ _ _ (omega arith, h)
-      (λ _. fault_in P code at _ _ _ _ (omega arith, h)
-      (λ _. fault_in P code at _ _ _ _ (omega arith, ha)
+      fault_in P code at _ _ _ _ h
+      (λ _. fault_in P code at _ _ _ _ ha
+      (λ _. fault_in P code at _ _ _ _ ha
+      (λ _. fault_in P code at _ _ _ _ ha
+      (λ _. fault_in P code at _ _ _ _ h
+      (λ _. fault_in P code at _ _ _ _ h
+      (λ _. fault_in P code at _ _ _ _ ha
       (λ _. fault_none P code at))))))))
       (sym ev ∙ e)
 
@@ -152,7 +151,7 @@ pub alternate_below : (given : List ℕ) (alternate : Lba) → alternate ≡ alt
 unfolding alternate_of
 alternate_below given alternate e h₁ h₂ h₀ = rw e (omega arith)
 
--- ---- what is made, and the four ends
+-- ---- what is made, and the three ends
 pub pair_made_lem : (b : Block) (p : Params) (from to : Track) (plain fill image one left : List ℕ) → part 0 p.size plain ≡ plain_fill (medium_of b.drive) p
     → one ≡ made_at b p from (Moved to) (take (p.size - 0) plain) image → left ≡ made_at b p to (Taken from) fill one
     → left ≡ assigned b p from to fill image
@@ -196,11 +195,6 @@ module _ (b : Block) (p : Params) (buffer given : List ℕ) (entry : Drive) (ima
   whole v e =
       then_missing p _ _ _ _ _ _
       ∙ ap (λ (x : Verdict). ended x (judged (check_tests gap b.address))) (by_given p b.address given image alternate ea verdict ev ∙ e)
-
-  pub assign_refused : (number : ℕ) → verdict ≡ Refused number → r ≡ refused number entry
-      → made r image ≡ assign_alternate b p buffer given entry image
-  unfolding assign_alternate ended
-  assign_refused number e er = ends_refused _ entry image _ r _ number (whole _ e) er
 
   pub assign_fails : (code : ℕ) (at : Lba) → verdict ≡ Faulty code at → r ≡ failed b.drive b.drive code at 0 0 entry
       → made r image ≡ assign_alternate b p buffer given entry image

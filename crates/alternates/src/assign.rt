@@ -7,19 +7,19 @@ ghost use Rattle.model.specs.Checks.{on, judged};
 ghost use Rattle.model.specs.Record.{made, good as good_ending};
 ghost use Rattle.model.specs.Commands.{fill_of, assign_tests, assigned, assign_alternate};
 ghost use Rattle.model.specs.Premises.{OnTrack};
+ghost use Rattle.alternates.specs.Faults.{fault_verdict};
 
 use crate::keep::assign_kept;
-use base::logic::either;
 use checks::block::{alternate_of, keeps_contents};
-use endings::ending::{failed, good, refused};
+use codes::Code;
+use endings::ending::{failed, good};
 use formats::making::{fill_of, make_at, plain_fill};
 use geometry::medium::medium_of;
 use geometry::params::{Lba, Params, Track};
 use model::block::Block;
 use model::record::{Drive, Ending};
-use model::verdict::Verdict;
 use track::pair::state_of;
-use track::state::{State, is_bad, is_moved, is_taken, is_taken_by_other};
+use track::state::State;
 
 // The faults of a pair of tracks, in document 01's order.
 fn pair_faults(
@@ -30,40 +30,46 @@ fn pair_faults(
     same: bool,
     away: bool,
     unfit: bool,
-) -> Verdict
-    ensures { result ≡ judged
+) -> Result<(), (Code, Lba)>
+    ensures { fault_verdict result ≡ judged
         (on moved 0x1D a ∷ on taken 0x1C a ∷ on same 0x22 a ∷ on away 0x1D alternate ∷ on unfit 0x1F alternate ∷ []) }
 {
     if moved {
-        return Verdict::Faulty(0x1D, a);
+        return Err((Code::Paired, a));
     }
     if taken {
-        return Verdict::Faulty(0x1C, a);
+        return Err((Code::Taken, a));
     }
     if same {
-        return Verdict::Faulty(0x22, a);
+        return Err((Code::NotValid, a));
     }
     if away {
-        return Verdict::Faulty(0x1D, alternate);
+        return Err((Code::Paired, alternate));
     }
     if unfit {
-        return Verdict::Faulty(0x1F, alternate);
+        return Err((Code::UnfitAlternate, alternate));
     }
-    Verdict::Passed
+    Ok(())
 }
 
 // Assign Alternate's own checks, up to what is missing in A.
-fn assign_faults(image: &[u8], p: Params, first: u8, a: Lba, alternate: Lba) -> Verdict
+fn assign_faults(
+    image: &[u8],
+    p: Params,
+    first: u8,
+    a: Lba,
+    alternate: Lba,
+) -> Result<(), (Code, Lba)>
     requires { Fits p image.now × ((track_of p a).0 < track_count p) }
-    ensures { result ≡ judged (assign_tests p first a alternate
+    ensures { fault_verdict result ≡ judged (assign_tests p first a alternate
         (state_of p (track_of p a) image.now) (state_of p (track_of p alternate) image.now) 0) }
 {
     if 0x1F < first {
-        return Verdict::Faulty(0x22, a);
+        return Err((Code::NotValid, a));
     }
     let last = p.last_address();
-    if alternate.is_past(last) {
-        return Verdict::Faulty(0x21, alternate);
+    if alternate > last {
+        return Err((Code::PastEnd, alternate));
     }
     let from = p.track_of(a);
     let to = p.track_of(alternate);
@@ -72,11 +78,11 @@ fn assign_faults(image: &[u8], p: Params, first: u8, a: Lba, alternate: Lba) -> 
     pair_faults(
         a,
         alternate,
-        is_moved(one),
-        is_taken(one),
-        to.is_same(from),
-        is_taken_by_other(from, other),
-        either(is_moved(other), is_bad(other)),
+        one.is_moved(),
+        one.is_taken(),
+        to == from,
+        other.is_taken_by_other(from),
+        other.is_moved() | other.is_bad(),
     )
 }
 
@@ -96,11 +102,11 @@ fn assign_formatted(
     entry: Drive,
     b: Block,
     p: Params,
-    buffer: &[u8],
+    buffer: &[u8; 512],
     to: Track,
     image: &mut [u8],
 ) -> Ending
-    requires { OnTrack b p image.old × (to.0 < track_count p) × (length buffer.now ≡ 512) }
+    requires { OnTrack b p image.old × (to.0 < track_count p) }
     ensures { made result image.new ≡ made (good_ending b.drive 0 0 entry)
         (assigned b p (track_of p b.address) to (fill_of b p buffer.now) image.old) }
 {
@@ -114,24 +120,20 @@ pub fn assign_alternate(
     entry: Drive,
     b: Block,
     p: Params,
-    buffer: &[u8],
+    buffer: &[u8; 512],
     given: &[u8],
     image: &mut [u8],
 ) -> Ending
-    requires { OnTrack b p image.old × (3 ≤ length given.now) × (length buffer.now ≡ 512) }
+    requires { OnTrack b p image.old × (3 ≤ length given.now) }
     ensures { made result image.new ≡ assign_alternate b p buffer.now given.now entry image.old }
 {
     let drive = b.drive;
     let alternate = alternate_of(given);
-    let verdict = assign_faults(image, p, given[0], b.address, alternate);
-    match verdict {
-        Verdict::Refused(number) => refused(entry, number),
-        Verdict::Faulty(code, place) => failed(entry, drive, drive, code, place, 0, 0),
-        Verdict::Passed => {
-            if keeps_contents(b) {
-                return assign_kept(entry, b, p, given, image);
-            }
-            assign_formatted(entry, b, p, buffer, p.track_of(alternate), image)
-        }
+    if let Err((code, place)) = assign_faults(image, p, given[0], b.address, alternate) {
+        return failed(entry, drive, drive, code, place, 0, 0);
     }
+    if keeps_contents(b) {
+        return assign_kept(entry, b, p, given, image);
+    }
+    assign_formatted(entry, b, p, buffer, p.track_of(alternate), image)
 }

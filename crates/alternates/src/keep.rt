@@ -5,7 +5,7 @@ ghost use Rattle.geometry.specs.Params.{track_of};
 ghost use Rattle.interleave.specs.Layout.{layout_of};
 ghost use Rattle.track.specs.Pair.{state_of};
 ghost use Rattle.keeping.specs.Keep.{keep_code, kept};
-ghost use Rattle.model.specs.declared.verdict.Verdict.TheVariants.{Passed};
+ghost use Rattle.model.specs.Verdicts.{Passed};
 ghost use Rattle.model.specs.Block.{alternate_of};
 ghost use Rattle.model.specs.Checks.{judged};
 ghost use Rattle.model.specs.Record.{made, unless, good as good_ending};
@@ -20,7 +20,6 @@ use keeping::slots::keep_code;
 use keeping::step::keep;
 use model::block::Block;
 use model::record::{Drive, Ending};
-use track::search::NO_SLOT;
 
 // The other checks have passed: a sector of A that is missing is an error before any write.
 pub fn assign_kept(entry: Drive, b: Block, p: Params, given: &[u8], image: &mut [u8]) -> Ending
@@ -35,9 +34,8 @@ pub fn assign_kept(entry: Drive, b: Block, p: Params, given: &[u8], image: &mut 
     let drive = b.drive;
     let at = b.address;
     let from = p.track_of(at);
-    let mut slots = [NO_SLOT; 32];
-    let code = keep_code(image, p, from, &mut slots);
-    if code != 0 {
+    let mut slots = [None; 32];
+    if let Err(code) = keep_code(image, p, from, &mut slots) {
         return failed(entry, drive, drive, code, at, 0, 0);
     }
     let n = p.sectors;

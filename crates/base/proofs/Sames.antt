@@ -1,14 +1,11 @@
--- Laws of `same_bytes`, and of the loop that compares.
-use mathlib.Core.Path.{◌≡◌, refl, sym, ap₂, ◌∙◌}
-use mathlib.Core.Bool.{true, false, ◌&&◌, false≢true}
+-- Laws of `same_bytes`, and what std's `==` of slices says in its terms.
+use mathlib.Core.Path.{◌≡◌, refl, ap, ap₂}
+use mathlib.Core.Bool.{Bool, true, ◌&&◌, false≢true}
 use mathlib.Core.List.{List, [], ◌∷◌}
-use Prim.Native.Nat.{ℕ, suc, ◌+◌, ◌≤◌, ◌<◌}
-use native.Mathlib.Numerals.{add-one}
-use native.Mathlib.Omega.{arith}
-use lib.ListN.{length, drop, get_or, drop_of_length-le}
-use lib.Seq.{drop-cons}
+use Prim.Native.Nat.{ℕ}
 use lib.Dec.{eqb}
-use borrow.Author.Tests.{eq-eqb, ne_eqb, eqb-true}
+use Rattle.std.specs.Cmp.Lexicographic.{pointwise}
+use borrow.Author.Tests.{eq-eqb, eqb-true}
 use Rattle.base.specs.Same.{same_bytes}
 use Rattle.base.proofs.Bools.{both_true}
 
@@ -26,26 +23,10 @@ same_eq (x ∷ xs) (y ∷ ys) e =
     let p = both_true (eqb x y) (same_bytes xs ys) e in
     ap₂ {C = List ℕ} (λ a l. a ∷ l) (eqb-true x y p.0) (same_eq xs ys p.1)
 
--- what is left to compare from i on decides
-pub record Compared (a b : List ℕ) (i : ℕ) : Type 0 where
-  pub most : i ≤ length a
-  pub rest : same_bytes (drop i a) (drop i b) ≡ same_bytes a b
-
-module _ (a b : List ℕ) (same : length a ≡ length b) where
-  pub compared_none : Compared a b 0
-  compared_none = record { most = omega arith; rest = refl }
-
-  module _ (i : ℕ) (w : Compared a b i) where
-    next : i < length a → same_bytes (drop i a) (drop i b) ≡ (eqb (get_or a i 0) (get_or b i 0) && same_bytes (drop (suc i) a) (drop (suc i) b))
-    unfolding same_bytes
-    next h = rw (drop-cons a i 0 h, drop-cons b i 0 (omega arith))
-
-    pub compared_stop : i < length a → (get_or a i 0 ≡ get_or b i 0 → ⊥) → false ≡ same_bytes a b
-    compared_stop h ne = simp (ne_eqb _ _ ne) at (sym (next h)) ∙ w.rest
-
-    pub compared_more : i < length a → get_or a i 0 ≡ get_or b i 0 → Compared a b (i + 1)
-    compared_more h e = record { most = omega arith; rest = rw add-one (sym (simp (eq-eqb _ _ e) at (next h)) ∙ w.rest) }
-
-    pub compared_all : length a ≤ i → true ≡ same_bytes a b
-    unfolding same_bytes
-    compared_all h = rw (drop_of_length-le a {i = i} h, drop_of_length-le b {i = i} (omega arith)) at w.rest
+-- what `==` of two slices says
+pub same_pointwise : (a b : List ℕ) → pointwise eqb a b ≡ same_bytes a b
+unfolding same_bytes
+same_pointwise [] [] = refl
+same_pointwise [] (y ∷ ys) = refl
+same_pointwise (x ∷ xs) [] = refl
+same_pointwise (x ∷ xs) (y ∷ ys) = ap (λ (r : Bool). eqb x y && r) (same_pointwise xs ys)

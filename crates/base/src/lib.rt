@@ -1,5 +1,4 @@
-// What every layer uses: byte slices, and tests that have both been made.
+// What every layer uses: byte slices.
 #![tactic(auto)]
 
 pub mod bytes;
-pub mod logic;

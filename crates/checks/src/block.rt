@@ -32,16 +32,17 @@ pub fn is_whole(bytes: &[u8]) -> bool
     bytes.len() == 10 && is_copy(bytes)
 }
 
+#[tactic(auto, unfolding(model::specs::Block::block_of))]
 fn fields(opcode: u8, high: u8, middle: u8, low: u8, extra: u8, control: u8) -> Block
     ensures { result ≡ block_of (opcode ∷ high ∷ middle ∷ low ∷ extra ∷ control ∷ []) }
 {
     Block {
-        opcode: opcode,
+        opcode,
         top: 128 <= high,
         drive: high / 32 % 4,
-        address: Lba::of_bytes(high % 32, middle, low),
-        extra: extra,
-        control: control,
+        address: Lba::from([high % 32, middle, low]),
+        extra,
+        control,
     }
 }
 
@@ -94,5 +95,5 @@ pub fn alternate_of(given: &[u8]) -> Lba
     requires { 3 ≤ length given.now }
     ensures { result ≡ alternate_of given.now }
 {
-    Lba::of_bytes(given[0], given[1], given[2])
+    Lba::from([given[0], given[1], given[2]])
 }

@@ -11,8 +11,8 @@ use Rattle.geometry.specs.declared.params.Track.{Track}
 use Rattle.geometry.specs.Params.{OnDrive, further, next}
 use Rattle.geometry.proofs.Addresses.{same_lba, further_next}
 use Rattle.track.specs.Image.{Fits, track_bytes, slot_data}
-use Rattle.track.specs.declared.find.Sector.{Sector}
-use Rattle.track.specs.declared.find.Sector.TheVariants.{Slot, Fault}
+use Rattle.track.specs.Find.{Sector}
+use Rattle.track.specs.Find.{Slot, Fault}
 use Rattle.sectors.specs.Transfer.{Transfer, begun, ended, read_slot, write_slot, onward, found, reading, writing}
 use Rattle.contents.specs.Content.{Missing, content_in, content_of}
 use Rattle.contents.proofs.Terms.{Given}

@@ -12,11 +12,11 @@ use Rattle.geometry.specs.declared.params.Track.{Track}
 use Rattle.geometry.specs.Params.{Within, track_count, track_of, sector_of, OnDrive}
 use Rattle.geometry.proofs.Addresses.{track_in}
 use Rattle.track.specs.declared.id.Id.{Id}
-use Rattle.track.specs.declared.find.Where.{Where}
-use Rattle.track.specs.declared.find.Where.TheVariants.{On, Off}
+use Rattle.track.specs.Find.{Where}
+use Rattle.track.specs.Find.{On, Off}
 use Rattle.track.specs.Id.{id_in, own_id}
 use Rattle.track.specs.Image.{track_bytes, slot_id, slot_data, first_id}
-use Rattle.track.specs.declared.find.Sector.TheVariants.{Slot}
+use Rattle.track.specs.Find.{Slot}
 use Rattle.track.specs.Find.{taken_by, where_by, where_of, slot_used, sector_in, sector_from, sector_found}
 use Rattle.track.proofs.Laws.{taken_past, where_in, off_on, on_same, where_has}
 use Rattle.sectors.proofs.Laws.{found_there}

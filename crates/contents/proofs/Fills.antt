@@ -15,7 +15,7 @@ use Rattle.interleave.proofs.Slots.{slot_of, slot_lt}
 use Rattle.track.specs.declared.state.State.{State}
 use Rattle.track.specs.declared.state.State.TheVariants.{Sound, Bad, Moved, Taken}
 use Rattle.track.specs.Image.{Fits, track_bytes, slot_data}
-use Rattle.track.specs.declared.find.Sector.TheVariants.{Slot}
+use Rattle.track.specs.Find.{Slot}
 use Rattle.track.specs.Find.{sector_found}
 use Rattle.formatter.specs.Format.{formatted}
 use Rattle.formatter.proofs.Laws.{length_formatted, sound_in, format_forms, format_fills, found_sound, found_moved, found_bad, found_taken}

@@ -13,7 +13,7 @@ use Rattle.geometry.specs.declared.params.Track.{Track}
 use Rattle.geometry.specs.Params.{track_count, track_of, OnDrive, further}
 use Rattle.track.specs.declared.state.State.TheVariants.{Sound, Bad}
 use Rattle.track.specs.Image.{Fits}
-use Rattle.track.specs.declared.find.Sector.TheVariants.{Slot}
+use Rattle.track.specs.Find.{Slot}
 use Rattle.track.specs.Pair.{pair_split}
 use Rattle.sectors.specs.Transfer.{Transfer, begun, write_slot, found, reading, writing}
 use Rattle.contents.specs.Content.{Bytes, Missing, content_of, put}

@@ -14,7 +14,7 @@ use Rattle.geometry.specs.declared.params.Track.{Track}
 use Rattle.geometry.specs.Params.{track_count, slot_size, track_size, track_start, track_of, sector_of}
 use Rattle.geometry.proofs.Addresses.{same_track}
 use Rattle.track.specs.Image.{Fits, track_bytes, with_track, slot_data, with_data}
-use Rattle.track.specs.declared.find.Sector.TheVariants.{Slot, Fault}
+use Rattle.track.specs.Find.{Slot, Fault}
 use Rattle.track.proofs.Laws.{track_room}
 use Rattle.sectors.specs.Transfer.{found}
 use Rattle.contents.specs.Content.{Bytes, Missing, content_in, content_at, content_of, put_in, put}

@@ -13,8 +13,8 @@ use Rattle.geometry.specs.declared.params.Track.{Track}
 use Rattle.geometry.specs.Params.{track_count, track_of, sector_of, OnDrive}
 use Rattle.geometry.proofs.Addresses.{track_in}
 use Rattle.track.specs.Image.{Fits}
-use Rattle.track.specs.declared.find.Sector.{Sector}
-use Rattle.track.specs.declared.find.Sector.TheVariants.{Slot, Fault}
+use Rattle.track.specs.Find.{Sector}
+use Rattle.track.specs.Find.{Slot, Fault}
 use Rattle.track.proofs.Laws.{SameIds, found_same, data_keeps}
 use Rattle.sectors.specs.Transfer.{found}
 use Rattle.sectors.proofs.Laws.{found_slot, slots_apart}

@@ -10,7 +10,7 @@ use Rattle.geometry.specs.declared.params.Track.{Track}
 use Rattle.geometry.specs.Params.{further, next}
 use Rattle.geometry.proofs.Addresses.{same_lba, further_next}
 use Rattle.track.specs.Image.{track_bytes, slot_data}
-use Rattle.track.specs.declared.find.Sector.TheVariants.{Slot}
+use Rattle.track.specs.Find.{Slot}
 use Rattle.sectors.specs.Transfer.{Transfer, begun, ended, read_slot, found, reading}
 use Rattle.sectors.proofs.Laws.{onward_has}
 use Rattle.contents.specs.Content.{read_bytes, Missing, content_in, content_of}

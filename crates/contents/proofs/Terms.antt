@@ -11,7 +11,7 @@ use Rattle.geometry.specs.Params.{track_count, slot_size, track_start, address_c
 use Rattle.track.specs.declared.state.State.{State}
 use Rattle.track.specs.declared.state.State.TheVariants.{Moved, Taken}
 use Rattle.track.specs.Image.{with_track}
-use Rattle.track.specs.declared.find.Sector.TheVariants.{Slot}
+use Rattle.track.specs.Find.{Slot}
 use Rattle.track.specs.Pair.{state_of}
 use Rattle.formatter.specs.Format.{formatted, sound_from}
 use Rattle.sectors.specs.Transfer.{found}

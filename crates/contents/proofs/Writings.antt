@@ -13,7 +13,7 @@ use Rattle.geometry.specs.declared.params.Track.{Track}
 use Rattle.geometry.specs.Params.{OnDrive, further, next}
 use Rattle.geometry.proofs.Addresses.{same_lba, further_next}
 use Rattle.track.specs.Image.{Fits}
-use Rattle.track.specs.declared.find.Sector.TheVariants.{Slot, Fault}
+use Rattle.track.specs.Find.{Slot, Fault}
 use Rattle.sectors.specs.Transfer.{Transfer, begun, ended, write_slot, found, writing}
 use Rattle.sectors.proofs.Laws.{onward_has, writing_counted}
 use Rattle.contents.specs.Content.{Bytes, content_of, put_in, put}

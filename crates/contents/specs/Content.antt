@@ -4,8 +4,8 @@ use Rattle.geometry.specs.declared.params.Params.{Params}
 use Rattle.geometry.specs.declared.params.Lba.{Lba}
 use Rattle.geometry.specs.declared.params.Track.{Track}
 use Rattle.track.specs.Image.{track_bytes, with_track, slot_data, with_data}
-use Rattle.track.specs.declared.find.Sector.{Sector}
-use Rattle.track.specs.declared.find.Sector.TheVariants.{Slot, Fault}
+use Rattle.track.specs.Find.{Sector}
+use Rattle.track.specs.Find.{Slot, Fault}
 use Rattle.track.specs.Find.{sector_found}
 use Rattle.sectors.specs.Transfer.{found}
 

@@ -1,23 +1,19 @@
 -- How a Copy ends, and what it leaves, by what was copied.
 use mathlib.Core.Path.{◌≡◌, sym, ◌∙◌}
-use mathlib.Core.List.{List, ◌++◌}
-use Prim.Native.Nat.{ℕ, ◌-◌, ◌≤◌, ◌<◌}
+use mathlib.Core.List.{List}
+use Prim.Native.Nat.{ℕ, ◌-◌, ◌≤◌}
 use native.Mathlib.Omega.{arith}
-use lib.ListN.{length, replicate}
 use Rattle.geometry.specs.declared.params.Lba.{Lba}
 use Rattle.geometry.specs.declared.params.Params.{Params}
 use Rattle.geometry.specs.Params.{further}
 use Rattle.geometry.proofs.Sizes.{sectors_most}
-use Rattle.sectors.proofs.Laws.{reading_handed, writing_taken}
 use Rattle.copying.specs.declared.route.Route.{Route}
-use Rattle.copying.specs.declared.route.End.{End}
-use Rattle.copying.specs.declared.route.End.TheVariants.{Going, SourceFault, TargetFault, Short}
+use Rattle.copying.specs.Ends.{End, as_end, Going, SourceFault, TargetFault, Short}
 use Rattle.copying.specs.declared.route.Copied.{Copied}
-use Rattle.copying.specs.Images.{image_of}
 use Rattle.copying.specs.Copying.{copied}
-use Rattle.copying.specs.Listwise.{read_all, sectors_for, write_all, Fitting}
-use Rattle.copying.proofs.Laws.{copied_most, copied_read, EndedBy, going, by_source, by_target, short, copied_ended, short_some}
-use Rattle.pouring.specs.Promises.{CopyReady, CopiedBy}
+use Rattle.copying.specs.Listwise.{Fitting}
+use Rattle.copying.proofs.Laws.{copied_most, copied_read, short_some}
+use Rattle.pouring.specs.Promises.{RouteReady, CopiedBy}
 use Rattle.model.specs.declared.block.CopyBlock.{CopyBlock}
 use Rattle.model.specs.declared.record.Drive.{Drive}
 use Rattle.model.specs.declared.record.Ending.{Ending}
@@ -29,26 +25,10 @@ use Rattle.model.proofs.engine.Checked.{count_some}
 use Rattle.copies.specs.Ends.{CanEnd}
 
 -- ---- a copy can begin
-pub copies_on : (k : CopyBlock) (p q : Params) (m : ℕ) (images : List (List ℕ)) (buffer : List ℕ) → m ≡ count_of k.from → OnDrives k p q images
-    → length buffer ≡ 512 → m ≤ 256 → CopyReady (route_of k p q) m images buffer
-copies_on k p q m images buffer e ready whole few =
-    record {
-      route = record { source_there = ready.from.drive; target_there = ready.to.drive; most = few; fitting = rw e ready.fitting };
-      whole = whole;
-    }
-
--- ---- codes
-ended_source : (source target : ℕ) {end : End} → EndedBy source target end → source < 0x80 → (code : ℕ) → end ≡ SourceFault code → code < 0x80
-ended_source source target going l code e = absurd (let z : ◌≡◌ {A = ℕ} 0 1 = cc in omega arith)
-ended_source source target by_source l code e = let same : source ≡ code = cc in omega (arith, same, l)
-ended_source source target by_target l code e = absurd (let z : ◌≡◌ {A = ℕ} 0 1 = cc in omega arith)
-ended_source source target short l code e = absurd (let z : ◌≡◌ {A = ℕ} 0 1 = cc in omega arith)
-
-ended_target : (source target : ℕ) {end : End} → EndedBy source target end → target < 0x80 → (code : ℕ) → end ≡ TargetFault code → code < 0x80
-ended_target source target going l code e = absurd (let z : ◌≡◌ {A = ℕ} 0 1 = cc in omega arith)
-ended_target source target by_source l code e = absurd (let z : ◌≡◌ {A = ℕ} 0 1 = cc in omega arith)
-ended_target source target by_target l code e = let same : target ≡ code = cc in omega (arith, same, l)
-ended_target source target short l code e = absurd (let z : ◌≡◌ {A = ℕ} 0 1 = cc in omega arith)
+pub copies_on : (k : CopyBlock) (p q : Params) (m : ℕ) (images : List (List ℕ)) → m ≡ count_of k.from → OnDrives k p q images → m ≤ 256
+    → RouteReady (route_of k p q) m images
+copies_on k p q m images e ready few =
+    record { source_there = ready.from.drive; target_there = ready.to.drive; most = few; fitting = rw e ready.fitting }
 
 -- ---- a copy that has ended can be answered
 module _ (k : CopyBlock) (p q : Params) (images : List (List ℕ)) (ready : OnDrives k p q images) where
@@ -61,12 +41,6 @@ module _ (k : CopyBlock) (p q : Params) (images : List (List ℕ)) (ready : OnDr
   fit : Fitting r n images
   fit = ready.fitting
 
-  source_code : (read_all r n images).code < 0x80
-  source_code = (reading_handed p (image_of k.from.drive images) fit.source_fits n k.from.address fit.source_on).code
-
-  target_code : (write_all r n images (read_all r n images)).code < 0x80
-  target_code = (writing_taken q (sectors_for r n (read_all r n images).done) k.to.address ((read_all r n images).handed ++ replicate q.size 0) (image_of k.to.drive images)).code
-
   can_end_so : (c : Copied) (before after : List ℕ) (left : List (List ℕ)) → CopiedBy (copied r n images) c before after left → CanEnd k c
   can_end_so c before after left by = record {
     from = ready.from;
@@ -74,8 +48,6 @@ module _ (k : CopyBlock) (p q : Params) (images : List (List ℕ)) (ready : OnDr
     few = omega (arith, by.done, copied_most r n images fit, ready.few);
     source_below = omega (arith, by.read, copied_read r n images fit, fit.source_on, sectors_most p fit.source_fits.within);
     target_below = omega (arith, by.done, copied_most r n images fit, fit.target_on, sectors_most q fit.target_fits.within);
-    source_code = λ code e. ended_source _ _ (copied_ended r n images fit) source_code code (sym by.end ∙ e);
-    target_code = λ code e. ended_target _ _ (copied_ended r n images fit) target_code code (sym by.end ∙ e);
     short_some = λ e. omega (arith, by.done, short_some r n images fit (count_some k.from) (sym by.end ∙ e));
   }
 
@@ -84,7 +56,7 @@ module _ (k : CopyBlock) (p q : Params) (images : List (List ℕ)) (ready : OnDr
 
   -- ---- what it leaves
   pub copy_leaves : (entry : Drive) (m : ℕ) (c : Copied) (before after : List ℕ) (left : List (List ℕ)) (ending : Ending) → m ≡ n
-      → CopiedBy (copied r m images) c before after left → ending ≡ copy_ending k c.read c.done c.end entry → copy_effect ending after left ≡ copy_left k entry before (copied r n images)
+      → CopiedBy (copied r m images) c before after left → ending ≡ copy_ending k c.read c.done (as_end c.fault) entry → copy_effect ending after left ≡ copy_left k entry before (copied r n images)
   unfolding copy_left
   copy_leaves entry m c before after left ending em by e = rw (e, by.read, by.done, by.end, by.front, by.left, em)
 

@@ -8,21 +8,20 @@ use native.Mathlib.Decide.{dec_lt}
 use native.Mathlib.Omega.{arith}
 use lib.Dec.{eqb, ltb}
 use Rattle.geometry.specs.declared.params.Lba.{Lba}
-use Rattle.geometry.specs.declared.config.Setting.{Setting}
-use Rattle.geometry.specs.declared.config.Setting.TheVariants.{Valid, Invalid}
+use Rattle.geometry.specs.Config.{Setting, is_valid}
+use Rattle.std.specs.Prelude.{Some, None, Result, Ok, Err}
 use Rattle.geometry.specs.Params.{further}
-use Rattle.geometry.specs.Config.{is_valid}
 use Rattle.copying.specs.Listwise.{filled_by}
 use Rattle.model.specs.declared.block.Block.{Block}
 use Rattle.model.specs.declared.block.CopyBlock.{CopyBlock}
-use Rattle.model.specs.declared.verdict.Verdict.{Verdict}
-use Rattle.model.specs.declared.verdict.Verdict.TheVariants.{Faulty, Passed}
-use Rattle.model.specs.declared.verdict.Hits.{Hits}
-use Rattle.model.specs.declared.verdict.Judgement.{Judgement}
+use Rattle.model.specs.Verdicts.{Verdict, Faulty, Passed, stop_verdict, as_judgement, Judgement}
+use Rattle.model.specs.declared.verdict.Stop.{Stop}
+use Rattle.model.specs.declared.verdict.Stop.TheVariants.{Refuse, Fail}
+use Rattle.model.specs.declared.verdict.NamedStop.{NamedStop}
 use Rattle.model.specs.declared.verdict.View.{View}
 use Rattle.model.specs.Block.{count_of}
 use Rattle.model.specs.Table.{check_number, is_among, row_for}
-use Rattle.model.specs.Checks.{on, judged, is_unknown, control_wrong, block_wrong, with_params, past_end, not_spared, bytes_of, hits_of, in_order, judge_over, filling_of, shares, first_of, judge_copy}
+use Rattle.model.specs.Checks.{on, judged, is_unknown, control_wrong, block_wrong, with_params, past_end, not_spared, bytes_of, hits_of, judge_over, filling_of, shares, saying_of, first_of, judge_copy}
 use Rattle.checks.proofs.Orders.{hits, hits_same}
 use Rattle.model.proofs.engine.Judged.{judged_hit, judged_on, judged_none}
 use Rattle.model.proofs.engine.Copies.{judge_counted}
@@ -41,6 +40,10 @@ filled_most n ds dd hn hs hd = by (dec_lt 1024 (filled_by n ds dd))
         let z : 1025 * dd ≤ filled_by n ds dd * dd = mul-le-mul {n₂ = filled_by n ds dd} {m₂ = dd} h (omega arith) in
         absurd (omega (arith, bytes, z, div-mul-le_self (n * ds + (dd - 1)) dd, hd.0, hd.1))
 
+-- ---- what is said of one drive
+abbrev pub said : (named : ℕ) → Verdict → Judgement
+said named verdict = record { named = named; verdict = verdict }
+
 -- ---- sharing
 pub all_of : (k : CopyBlock) (n m : ℕ) {past-b past-a : Lba} {x y both all : Bool} → past-b ≡ further k.to.address m
     → x ≡ ltb k.from.address.0 past-b.0 → past-a ≡ further k.from.address n → y ≡ ltb k.to.address.0 past-a.0 → both ≡ (x && y)
@@ -48,19 +51,19 @@ pub all_of : (k : CopyBlock) (n m : ℕ) {past-b past-a : Lba} {x y both all : B
 unfolding shares
 all_of k n m pb ex pa ey eb ea = rw (ea, eb, ex, ey, pa, pb)
 
-module _ (hit : Bool) (at : Lba) {shared : Bool} (is : shared ≡ hit) where
-  pub shared_on : shared ≡ true → Faulty 0x22 at ≡ judged (on hit 0x22 at ∷ [])
-  shared_on e = sym (judged_hit hit (Faulty 0x22 at) [] (sym is ∙ e))
+module _ (hit : Bool) (at : Lba) (named : ℕ) {shared : Bool} (is : shared ≡ hit) where
+  pub shared_on : shared ≡ true → said named (Faulty 0x22 at) ≡ said named (judged (on hit 0x22 at ∷ []))
+  shared_on e = ap (said named) (sym (judged_hit hit (Faulty 0x22 at) [] (sym is ∙ e)))
 
-  pub shared_off : shared ≡ false → Passed ≡ judged (on hit 0x22 at ∷ [])
-  shared_off e = sym (judged_on hit (Faulty 0x22 at) [] (sym is ∙ e) ∙ judged_none)
+  pub shared_off : shared ≡ false → said named Passed ≡ said named (judged (on hit 0x22 at ∷ []))
+  shared_off e = ap (said named) (sym (judged_on hit (Faulty 0x22 at) [] (sym is ∙ e) ∙ judged_none))
 
 -- ---- the row of Copy
 -- pending hits wherever there are parameters
 held_valid : (setting : Setting) (a : Lba) → is_valid setting ≡ with_params setting (not_spared false a)
 unfolding is_valid with_params not_spared
-held_valid Invalid a = refl
-held_valid (Valid p) a = refl
+held_valid None a = refl
+held_valid (Some p) a = refl
 
 row_hits : (b : Block) (reach : ℕ) (v : View)
     → hits false (b.top || control_wrong false false b.control) (not v.present) (not (is_valid v.setting)) false
@@ -77,15 +80,42 @@ copy_hits b reach v is ec ew ev ea ep =
     hits_same refl (ew ∙ ap (λ (x : Bool). b.top || x) ec) refl (ap not ev) refl ea (ep ∙ ap (λ (x : Bool). v.pending && x) ev ∙ pends) refl refl
     ∙ row_hits b reach v ∙ ap (λ (opcode : ℕ). hits_of (row_for opcode) b reach v 0 0) (sym is)
 
-pub row_judged : (b : Block) (reach : ℕ) (v : View) {found : Hits} {verdict : Verdict} → found ≡ hits_of (row_for b.opcode) b reach v 0 0
-    → verdict ≡ judged (in_order b.address found) → verdict ≡ judge_over b reach v 0 0
-row_judged b reach v f h = rw (h, f)
+-- ---- all three: the first that fails is what is said
+stop_first : (stop : Stop) (first later : Judgement) → saying_of (stop_verdict stop) first later ≡ first
+unfolding saying_of
+stop_first (Refuse refusal) first later = refl
+stop_first (Fail code at) first later = refl
 
--- ---- all three
-pub copy_judged : (k : CopyBlock) (v w : View) {n m : ℕ} {one two three : Verdict} {later said : Judgement} → k.from.opcode ≡ 0x20 → n ≡ count_of k.from
-    → m ≡ filling_of n v.setting w.setting → one ≡ judge_over k.from n v 0 0 → two ≡ judge_over k.to m w 0 0
-    → three ≡ judged (on (shares k n m) 0x22 k.from.address ∷ [])
-    → later ≡ first_of (record { named = k.to.drive; verdict = two }) (record { named = k.from.drive; verdict = three })
-    → said ≡ first_of (record { named = k.from.drive; verdict = one }) later → said ≡ judge_copy k v w
-unfolding judge_copy
-copy_judged k v w is en em e1 e2 e3 el es = rw (judge_counted k.from v is, es, el, e1, e2, e3, em, en)
+first_fails : {T : Type 0} (named : ℕ) (end : Result T NamedStop) (row later : Judgement) (stop : NamedStop) → as_judgement named end ≡ row → end ≡ Err stop
+    → first_of row later ≡ said stop.named (stop_verdict stop.stop)
+first_fails named end row later stop is e = rw (← is, e) (stop_first stop.stop _ later)
+
+first_passes : {T : Type 0} (named : ℕ) (end : Result T NamedStop) (row later : Judgement) (x : T) → as_judgement named end ≡ row → end ≡ Ok x
+    → first_of row later ≡ later
+unfolding saying_of
+first_passes named end row later x is e = rw (← is, e)
+
+module _ (k : CopyBlock) (v w : View) {n m : ℕ} (is : k.from.opcode ≡ 0x20) (en : n ≡ count_of k.from) (em : m ≡ filling_of n v.setting w.setting)
+    {T : Type 0} (one : Result T NamedStop) (e1 : as_judgement k.from.drive one ≡ said k.from.drive (judge_over k.from n v 0 0)) where
+  abbrev target : Judgement
+  target = said k.to.drive (judge_over k.to m w 0 0)
+
+  abbrev shared : Judgement
+  shared = said k.from.drive (judged (on (shares k n m) 0x22 k.from.address ∷ []))
+
+  by_rows : first_of (said k.from.drive (judge_over k.from n v 0 0)) (first_of target shared) ≡ judge_copy k v w
+  unfolding judge_copy
+  by_rows = rw (judge_counted k.from v is, em, en)
+
+  pub source_fails : (stop : NamedStop) → one ≡ Err stop → said stop.named (stop_verdict stop.stop) ≡ judge_copy k v w
+  source_fails stop e = sym (first_fails _ one _ (first_of target shared) stop e1 e) ∙ by_rows
+
+  module _ (x : T) (p1 : one ≡ Ok x) (two : Result T NamedStop) (e2 : as_judgement k.to.drive two ≡ target) where
+    past_one : first_of target shared ≡ judge_copy k v w
+    past_one = sym (first_passes _ one _ _ x e1 p1) ∙ by_rows
+
+    pub target_fails : (stop : NamedStop) → two ≡ Err stop → said stop.named (stop_verdict stop.stop) ≡ judge_copy k v w
+    target_fails stop e = sym (first_fails _ two _ shared stop e2 e) ∙ past_one
+
+    pub rows_pass : (y : T) → two ≡ Ok y → (j : Judgement) → j ≡ shared → j ≡ judge_copy k v w
+    rows_pass y e j ej = ej ∙ sym (first_passes _ two _ _ y e2 e) ∙ past_one

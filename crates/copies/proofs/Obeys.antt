@@ -4,11 +4,11 @@ use mathlib.Core.Bool.{Bool}
 use mathlib.Core.List.{List, [], ◌∷◌}
 use Prim.Native.Nat.{ℕ, ◌<◌}
 use native.Mathlib.Omega.{arith}
-use lib.ListN.{length, get_or}
+use lib.ListN.{length}
 use Rattle.geometry.specs.declared.params.Lba.{Lba}
 use Rattle.geometry.specs.declared.params.Params.{Params}
-use Rattle.geometry.specs.declared.config.Setting.{Setting}
-use Rattle.geometry.specs.declared.config.Setting.TheVariants.{Valid, Invalid}
+use Rattle.geometry.specs.Config.{Setting}
+use Rattle.std.specs.Prelude.{Some, None}
 use Rattle.geometry.specs.Medium.{medium_of}
 use Rattle.geometry.proofs.Settings.{setting_within, setting_some}
 use Rattle.copying.specs.Copying.{copied}
@@ -17,9 +17,7 @@ use Rattle.model.specs.declared.block.CopyBlock.{CopyBlock}
 use Rattle.model.specs.declared.record.Drive.{Drive}
 use Rattle.model.specs.declared.record.Ending.{Ending}
 use Rattle.model.specs.declared.verdict.View.{View}
-use Rattle.model.specs.declared.verdict.Verdict.{Verdict}
-use Rattle.model.specs.declared.verdict.Verdict.TheVariants.{Refused, Faulty, Passed}
-use Rattle.model.specs.declared.verdict.Judgement.{Judgement}
+use Rattle.model.specs.Verdicts.{Verdict, Refused, Faulty, Passed, Judgement}
 use Rattle.model.specs.Block.{count_of}
 use Rattle.model.specs.Checks.{on, judged, judge_over, judge, filling_of, shares, saying_of, judge_copy}
 use Rattle.model.specs.Record.{setting_in, refused, failed, unless_named}
@@ -34,34 +32,26 @@ use Rattle.copies.proofs.Judges.{filled_most}
 use Rattle.checks.proofs.Views.{fault_over}
 use Rattle.copies.specs.Ready.{TwoDrives, Copyable}
 
--- ---- the image of a drive, of the four
-pub image_is : (images : List (List ℕ)) (drive k : ℕ) {image : List ℕ} → drive ≡ k → get_or images k [] ≡ image → image ≡ image_of drive images
-unfolding image_of
-image_is images drive k e is = rw e (sym is)
-
-pub fourth : (drive : ℕ) → drive < 4 → (drive ≡ 0 → ⊥) → (drive ≡ 1 → ⊥) → (drive ≡ 2 → ⊥) → drive ≡ 3
-fourth drive h n₀ n₁ n₂ = omega arith
-
 -- ---- by the parameters of both drives
 module _ (k : CopyBlock) (source : Drive) (buffer : List ℕ) (images : List (List ℕ)) where
-  pub none_copies : (from to : Setting) (r : Ending) → from ≡ Invalid → r ≡ failed k.from.drive k.from.drive 0x0A k.from.address 0 0 source
+  pub none_copies : (from to : Setting) (r : Ending) → from ≡ None → r ≡ failed k.from.drive k.from.drive 0x0A k.from.address 0 0 source
       → copy_effect r buffer images ≡ copy_with k from to source buffer images
   unfolding copy_with
   none_copies from to r e er = rw (e, er)
 
-  pub one_copies : (from to : Setting) (r : Ending) (p : Params) → from ≡ Valid p → to ≡ Invalid
+  pub one_copies : (from to : Setting) (r : Ending) (p : Params) → from ≡ Some p → to ≡ None
       → r ≡ failed k.from.drive k.to.drive 0x0A k.to.address 0 0 source → copy_effect r buffer images ≡ copy_with k from to source buffer images
   unfolding copy_with
   one_copies from to r p ef et er = rw (ef, et, er)
 
-  pub both_copy : (from to : Setting) (p q : Params) (x : CopyEffect) → from ≡ Valid p → to ≡ Valid q
+  pub both_copy : (from to : Setting) (p q : Params) (x : CopyEffect) → from ≡ Some p → to ≡ Some q
       → x ≡ copy_left k source buffer (copied (route_of k p q) (count_of k.from) images) → x ≡ copy_with k from to source buffer images
   unfolding copy_with
   both_copy from to p q x ef et ex = rw (ef, et) ex
 
 -- ---- what is said fits the sense: the code, its address, and the drive that it names
 abbrev Sayable : Judgement → Type 0
-Sayable said = (code : ℕ) (at : Lba) → said.verdict ≡ Faulty code at → (said.named < 4) × (code < 0x80) × (at.0 < address_limit)
+Sayable said = (code : ℕ) (at : Lba) → said.verdict ≡ Faulty code at → (said.named < 4) × (at.0 < address_limit)
 
 said_by : (verdict : Verdict) (first second : Judgement) → Sayable first → Sayable second → Sayable (saying_of verdict first second)
 unfolding saying_of
@@ -72,16 +62,15 @@ said_by Passed first second f s = s
 module _ (k : CopyBlock) (v w : View) (from : WellFormed k.from) (to : WellFormed k.to) where
   shared_below : (hit : Bool) → Sayable (record { named = k.from.drive; verdict = judged (on hit 0x22 k.from.address ∷ []) })
   shared_below hit code at e =
-      let P : ℕ → Lba → Type 0 = λ c l. (c < 0x80) × (l.0 < address_limit) in
-      let b = fault_in P code at hit 0x22 k.from.address [] (omega arith, from.address) (λ _. fault_none P code at) e in
-      (from.drive, b.0, b.1)
+      let P : ℕ → Lba → Type 0 = λ c l. l.0 < address_limit in
+      (from.drive, fault_in P code at hit 0x22 k.from.address [] from.address (λ _. fault_none P code at) e)
 
   pub copy_below : (said : Judgement) → said ≡ judge_copy k v w → Sayable said
   unfolding judge_copy judge
   copy_below said is =
       rw is
-      (said_by _ _ _ (λ code at e. let b = fault_over k.from _ v 0 0 _ refl code at e from.address in (from.drive, b.0, b.1))
-      (said_by _ _ _ (λ code at e. let b = fault_over k.to _ w 0 0 _ refl code at e to.address in (to.drive, b.0, b.1)) (shared_below _)))
+      (said_by _ _ _ (λ code at e. (from.drive, fault_over k.from _ v 0 0 _ refl code at e from.address))
+      (said_by _ _ _ (λ code at e. (to.drive, fault_over k.to _ w 0 0 _ refl code at e to.address)) (shared_below _)))
 
 -- ---- where all is passed, it can go on
 passed_faulty : (code : ℕ) (at : Lba) → Faulty code at ≡ Passed → ⊥
@@ -100,7 +89,7 @@ module _ (k : CopyBlock) (source target : Drive) (images : List (List ℕ)) (rea
   abbrev w : View
   w = view_of (medium_of k.to.drive) target (length T)
 
-  both_drives : (p q : Params) → setting_in (medium_of k.from.drive) source (length S) ≡ Valid p → setting_in (medium_of k.to.drive) target (length T) ≡ Valid q
+  both_drives : (p q : Params) → setting_in (medium_of k.from.drive) source (length S) ≡ Some p → setting_in (medium_of k.to.drive) target (length T) ≡ Some q
       → Copies k source target images ready.from_copy ready.to_copy ready.one_drive p q → OnDrives k p q images
   both_drives p q sp sq copies =
       let kp = setting_known _ source (length S) p sp in
@@ -114,12 +103,12 @@ module _ (k : CopyBlock) (source target : Drive) (images : List (List ℕ)) (rea
             (setting_some _ _ (length T) q kq, (setting_within _ _ (length T) q kq).0.size_most);
       }
 
-  filling_is : (p q : Params) (s t : Setting) → s ≡ Valid p → t ≡ Valid q → filling_of (count_of k.from) s t ≡ filled_by (count_of k.from) p.size q.size
+  filling_is : (p q : Params) (s t : Setting) → s ≡ Some p → t ≡ Some q → filling_of (count_of k.from) s t ≡ filled_by (count_of k.from) p.size q.size
   unfolding filling_of
   filling_is p q s t es et = rw (es, et) refl
 
   can_go : {said : Judgement} → CopyJudged k v w said → said.verdict ≡ Passed → (p q : Params)
-      → setting_in (medium_of k.from.drive) source (length S) ≡ Valid p → setting_in (medium_of k.to.drive) target (length T) ≡ Valid q → OnDrives k p q images
+      → setting_in (medium_of k.from.drive) source (length S) ≡ Some p → setting_in (medium_of k.to.drive) target (length T) ≡ Some q → OnDrives k p q images
   unfolding view_of
   can_go (copy_fault named code at some) e p q sp sq = absurd (passed_faulty code at e)
   can_go (copy_pass named one two three) e p q sp sq =

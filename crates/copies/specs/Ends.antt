@@ -1,7 +1,7 @@
--- What is known of a copy that has ended: its counts and addresses fit the answer, and its codes the sense.
-use Rattle.std.specs.Prelude.{ℕ, ◌+◌, ◌≤◌, ◌<◌, ◌≡◌}
+-- What is known of a copy that has ended: its counts and addresses fit the answer.
+use Rattle.std.specs.Prelude.{◌+◌, ◌≤◌, ◌<◌, ◌≡◌}
 use Rattle.copying.specs.declared.route.Copied.{Copied}
-use Rattle.copying.specs.declared.route.End.TheVariants.{SourceFault, TargetFault, Short}
+use Rattle.copying.specs.Ends.{Short, as_end}
 use Rattle.model.specs.declared.block.CopyBlock.{CopyBlock}
 use Rattle.model.specs.Premises.{address_limit, WellFormed}
 
@@ -11,6 +11,4 @@ pub record CanEnd (k : CopyBlock) (c : Copied) : Type 0 where
   pub few : c.done ≤ 1024
   pub source_below : k.from.address.0 + c.read < address_limit
   pub target_below : k.to.address.0 + c.done < address_limit
-  pub source_code : (code : ℕ) → c.end ≡ SourceFault code → code < 0x80
-  pub target_code : (code : ℕ) → c.end ≡ TargetFault code → code < 0x80
-  pub short_some : c.end ≡ Short → 1 ≤ c.done
+  pub short_some : as_end c.fault ≡ Short → 1 ≤ c.done

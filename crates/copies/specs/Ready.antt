@@ -1,8 +1,7 @@
 -- What the functions of Copy ask for.
-use Rattle.std.specs.Prelude.{◌≡◌, List, ℕ}
+use Rattle.std.specs.Prelude.{◌≡◌, List, ℕ, Some}
 use Rattle.geometry.specs.declared.params.Params.{Params}
-use Rattle.geometry.specs.declared.config.Setting.{Setting}
-use Rattle.geometry.specs.declared.config.Setting.TheVariants.{Valid}
+use Rattle.geometry.specs.Config.{Setting}
 use Rattle.model.specs.declared.block.CopyBlock.{CopyBlock}
 use Rattle.model.specs.declared.record.Drive.{Drive}
 use Rattle.model.specs.Premises.{WellFormed, OnDrives}
@@ -19,4 +18,4 @@ pub record TwoDrives (k : CopyBlock) (source target : Drive) : Type 0 where
 pub record Copyable (k : CopyBlock) (from to : Setting) (images : List (List ℕ)) : Type 0 where
   pub from_well : WellFormed k.from
   pub to_well : WellFormed k.to
-  pub both : (p q : Params) → from ≡ Valid p → to ≡ Valid q → OnDrives k p q images
+  pub both : (p q : Params) → from ≡ Some p → to ≡ Some q → OnDrives k p q images

@@ -1,17 +1,18 @@
 // The checks of Copy: a drive's row for the source, then for the destination, then whether they share a sector.
 ghost use Rattle.std.specs.Prelude.{◌≡◌, ◌≤◌, [], ◌∷◌};
 ghost use Rattle.copying.specs.Listwise.{filled_by};
-ghost use Rattle.model.specs.Checks.{on, judged, hits_of, judge_over, filling_of, shares, first_of, judge_copy};
+ghost use Rattle.model.specs.Checks.{on, judged, hits_of, judge_over, filling_of, shares, judge_copy};
+ghost use Rattle.model.specs.Verdicts.{as_judgement};
 ghost use Rattle.model.specs.Table.{row_for};
 ghost use Rattle.model.specs.Premises.{WellFormed};
 ghost use Rattle.checks.specs.Legal.{Legal, AtLeast128};
 
-use base::logic::{both, either};
 use checks::block::count_of;
-use checks::order::{control_wrong, is_valid, order, past_end};
-use geometry::config::Setting;
+use checks::order::{control_wrong, order, past_end};
+use codes::Code;
+use geometry::params::Params;
 use model::block::{Block, CopyBlock};
-use model::verdict::{Hits, Judgement, Verdict, View};
+use model::verdict::{Hits, NamedStop, Stop, View};
 
 // How many sectors of dd bytes n sectors of ds bytes fill, the last perhaps in part.
 fn filled_by(n: usize, ds: usize, dd: usize) -> usize
@@ -22,17 +23,13 @@ fn filled_by(n: usize, ds: usize, dd: usize) -> usize
 }
 
 // The sectors that n source sectors fill: none where a drive has no parameters, which is 0Ah.
-fn filling_of(n: usize, from: Setting, to: Setting) -> usize
+fn filling_of(n: usize, from: Option<Params>, to: Option<Params>) -> usize
     requires { (n ≤ 256) × Legal from × Legal to × AtLeast128 to }
     ensures { (result ≡ filling_of n from to) × (result ≤ 1024) }
 {
-    match from {
-        Setting::Invalid => 0,
-        Setting::Valid(p) => match to {
-            Setting::Invalid => 0,
-            Setting::Valid(q) => filled_by(n, p.size, q.size),
-        },
-    }
+    let Some(p) = from else { return 0 };
+    let Some(q) = to else { return 0 };
+    filled_by(n, p.size, q.size)
 }
 
 // Whether n addresses of the source and m of the destination, on one drive, have one in common.
@@ -44,21 +41,23 @@ fn shares(k: CopyBlock, n: usize, m: usize) -> bool
     let to = k.to;
     let a = from.address;
     let b = to.address;
-    let one = from.drive == to.drive;
-    both(one, both(b.further(m).is_past(a), a.further(n).is_past(b)))
+    (from.drive == to.drive) & ((b.further(m) > a) & (a.further(n) > b))
 }
 
 // 22h where they share one.
-fn share_test(k: CopyBlock, n: usize, m: usize) -> Verdict
+fn share_test(k: CopyBlock, n: usize, m: usize) -> Result<(), NamedStop>
     requires { WellFormed k.from × WellFormed k.to × (n ≤ 256) × (m ≤ 1024) }
-    ensures { result ≡ judged (on (shares k n m) 0x22 k.from.address ∷ []) }
+    ensures { as_judgement k.from.drive result
+        ≡ record { named = k.from.drive; verdict = judged (on (shares k n m) 0x22 k.from.address ∷ []) } }
 {
     if shares(k, n, m) {
         let from = k.from;
-        let at = from.address;
-        return Verdict::Faulty(0x22, at);
+        return Err(NamedStop {
+            named: from.drive,
+            stop: Stop::Fail(Code::NotValid, from.address),
+        });
     }
-    Verdict::Passed
+    Ok(())
 }
 
 // The checks of Copy's row that hit on one drive: it has no interleave, takes no data and hands none over. They are asked for here, and
@@ -68,62 +67,40 @@ fn copy_hits(b: Block, reach: usize, view: View) -> Hits
     ensures { result ≡ hits_of (row_for b.opcode) b reach view 0 0 }
 {
     let setting = view.setting;
-    let valid = is_valid(setting);
+    let valid = setting.is_some();
     Hits {
         unknown: false,
-        wrong: either(b.top, control_wrong(false, false, b.control)),
+        wrong: b.top | control_wrong(false, false, b.control),
         absent: !view.present,
         unset: !valid,
         interleave: false,
         past: past_end(b.address, reach, setting),
-        pending: both(view.pending, valid),
+        pending: view.pending & valid,
         short: false,
         small: false,
     }
 }
 
 // One drive's row of checks.
-fn judge_row(b: Block, reach: usize, view: View) -> Verdict
+fn judge_row(b: Block, reach: usize, view: View) -> Result<(), NamedStop>
     requires { Legal view.setting × WellFormed b × (b.opcode ≡ 0x20) × (reach ≤ 1024) }
-    ensures { result ≡ judge_over b reach view 0 0 }
+    ensures { as_judgement b.drive result ≡ record { named = b.drive; verdict = judge_over b reach view 0 0 } }
 {
-    order(b.address, copy_hits(b, reach, view))
+    let named = b.drive;
+    order(b.address, copy_hits(b, reach, view)).map_err(|stop| NamedStop { named, stop })
 }
 
-// What is said first.
-fn first_of(first: Judgement, second: Judgement) -> Judgement
-    ensures { result ≡ first_of first second }
-{
-    let verdict = first.verdict;
-    match verdict {
-        Verdict::Refused(_) => first,
-        Verdict::Faulty(_, _) => first,
-        Verdict::Passed => second,
-    }
-}
-
-pub fn judge_copy(k: CopyBlock, from: View, to: View) -> Judgement
+// The source is judged first, then the destination, then both.
+pub fn judge_copy(k: CopyBlock, from: View, to: View) -> Result<(), NamedStop>
     requires { WellFormed k.from × WellFormed k.to × Legal from.setting × Legal to.setting × AtLeast128 to.setting
         × (k.from.opcode ≡ 0x20) × (k.to.opcode ≡ 0x20) }
-    ensures { result ≡ judge_copy k from to }
+    ensures { as_judgement k.from.drive result ≡ judge_copy k from to }
 {
     let source = k.from;
     let target = k.to;
     let n = count_of(source);
-    let source_setting = from.setting;
-    let target_setting = to.setting;
-    let m = filling_of(n, source_setting, target_setting);
-    let one = Judgement {
-        named: source.drive,
-        verdict: judge_row(source, n, from),
-    };
-    let two = Judgement {
-        named: target.drive,
-        verdict: judge_row(target, m, to),
-    };
-    let three = Judgement {
-        named: source.drive,
-        verdict: share_test(k, n, m),
-    };
-    first_of(one, first_of(two, three))
+    let m = filling_of(n, from.setting, to.setting);
+    judge_row(source, n, from)?;
+    judge_row(target, m, to)?;
+    share_test(k, n, m)
 }

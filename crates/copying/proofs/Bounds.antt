@@ -14,8 +14,8 @@ use Rattle.base.proofs.Decide.{pick-both}
 use Rattle.sectors.specs.Transfer.{Transfer}
 use Rattle.contents.proofs.Laws.{writing_most}
 use Rattle.copying.specs.declared.route.Route.{Route}
-use Rattle.copying.specs.declared.route.End.{End}
-use Rattle.copying.specs.declared.route.End.TheVariants.{Going, SourceFault, TargetFault, Short}
+use Rattle.copying.specs.Ends.{End}
+use Rattle.copying.specs.Ends.{Going, SourceFault, TargetFault, Short}
 use Rattle.copying.specs.Images.{image_of}
 use Rattle.copying.specs.Copying.{Copying, copied}
 use Rattle.copying.specs.Listwise.{filled_by, read_all, sectors_for, write_all, end_of, read_of, copied_at_once, Fitting}

@@ -15,8 +15,8 @@ use Rattle.sectors.specs.Transfer.{Transfer}
 use Rattle.sectors.proofs.Laws.{Handed, reading_handed}
 use Rattle.contents.proofs.Laws.{reading_whole, writing_most, writing_all, writing_whole}
 use Rattle.copying.specs.declared.route.Route.{Route}
-use Rattle.copying.specs.declared.route.End.{End}
-use Rattle.copying.specs.declared.route.End.TheVariants.{Going, SourceFault, TargetFault, Short}
+use Rattle.copying.specs.Ends.{End}
+use Rattle.copying.specs.Ends.{Going, SourceFault, TargetFault, Short}
 use Rattle.copying.specs.Images.{image_of}
 use Rattle.copying.specs.Copying.{Copying, copied}
 use Rattle.copying.specs.Listwise.{filled_by, read_all, sectors_for, write_all, end_of, read_of, Fitting}

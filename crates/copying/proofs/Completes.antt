@@ -11,7 +11,7 @@ use Rattle.geometry.specs.Params.{further}
 use Rattle.sectors.specs.Transfer.{Transfer, begun, write_slot, writing}
 use Rattle.contents.proofs.Laws.{writing_most, writing_all, writing_whole}
 use Rattle.copying.specs.declared.route.Route.{Route}
-use Rattle.copying.specs.declared.route.End.TheVariants.{Going, TargetFault, Short}
+use Rattle.copying.specs.Ends.{Going, TargetFault, Short}
 use Rattle.copying.specs.Images.{image_of}
 use Rattle.copying.specs.Copying.{Copying, stopped, with_rest, filled, completed}
 use Rattle.copying.specs.Listwise.{filled_by, Fitting}

@@ -13,7 +13,7 @@ use Rattle.geometry.specs.Params.{further}
 use Rattle.sectors.specs.Transfer.{Transfer, write_slot, writing}
 use Rattle.contents.specs.Content.{Missing, content_of}
 use Rattle.copying.specs.declared.route.Route.{Route}
-use Rattle.copying.specs.declared.route.End.TheVariants.{Going, SourceFault, TargetFault, Short}
+use Rattle.copying.specs.Ends.{Going, SourceFault, TargetFault, Short}
 use Rattle.copying.specs.Images.{image_of}
 use Rattle.copying.specs.Copying.{Copying, stopped, with_rest, filled, poured_by, copying, completed_by, completed}
 use Rattle.copying.specs.Listwise.{filled_by, sectors_for, end_of, read_of, left_by}

@@ -13,8 +13,8 @@ use Rattle.track.specs.Find.{taken_by, where_by, where_of, holds, slot_used, sec
 use Rattle.sectors.specs.Transfer.{begun, ended, read_slot, write_slot, onward, found, reading, writing}
 use Rattle.contents.specs.Content.{content_in, content_of, put_in, put}
 use Rattle.copying.specs.declared.route.Route.{Route}
-use Rattle.copying.specs.declared.route.End.{End}
-use Rattle.copying.specs.declared.route.End.TheVariants.{Going, SourceFault, TargetFault, Short}
+use Rattle.copying.specs.Ends.{End}
+use Rattle.copying.specs.Ends.{Going, SourceFault, TargetFault, Short}
 use Rattle.copying.specs.Images.{image_of}
 use Rattle.copying.specs.Copying.{Copying, on_by, store_in, store, stores, poured_by, copying, completed_by, completed, copied}
 use Rattle.copying.specs.Listwise.{sectors_for, end_of, read_of, copied_at_once}

@@ -9,13 +9,13 @@ use lib.Seq.{drop-drop, take-append-le, drop-append-le, length-take-le, set-set}
 use Rattle.geometry.specs.declared.params.Track.{Track}
 use Rattle.geometry.specs.Params.{address_count, OnDrive, further}
 use Rattle.track.specs.Image.{Fits}
-use Rattle.track.specs.declared.find.Sector.{Sector}
-use Rattle.track.specs.declared.find.Sector.TheVariants.{Slot, Fault}
+use Rattle.track.specs.Find.{Sector}
+use Rattle.track.specs.Find.{Slot, Fault}
 use Rattle.sectors.specs.Transfer.{Transfer, ended, write_slot, onward, found, writing}
 use Rattle.contents.specs.Content.{content_of, put}
 use Rattle.contents.proofs.Laws.{put_fits, wrote}
 use Rattle.copying.specs.declared.route.Route.{Route}
-use Rattle.copying.specs.declared.route.End.TheVariants.{Going, TargetFault}
+use Rattle.copying.specs.Ends.{Going, TargetFault}
 use Rattle.copying.specs.Images.{image_of}
 use Rattle.copying.specs.Copying.{Copying, stopped, with_rest, on_by, unless_ended, store_in, store, stores}
 use Rattle.copying.proofs.Drives.{image_same}

@@ -9,8 +9,8 @@ use lib.Seq.{length-take-le}
 use Rattle.geometry.specs.Params.{further}
 use Rattle.contents.specs.Content.{Content, Bytes, Missing, content_of}
 use Rattle.copying.specs.declared.route.Route.{Route}
-use Rattle.copying.specs.declared.route.End.{End}
-use Rattle.copying.specs.declared.route.End.TheVariants.{Going, SourceFault, TargetFault, Short}
+use Rattle.copying.specs.Ends.{End}
+use Rattle.copying.specs.Ends.{Going, SourceFault, TargetFault, Short}
 use Rattle.copying.specs.Images.{image_of}
 use Rattle.copying.specs.Copying.{Copying, stopped, with_rest, taken, filled, on_by, unless_ended, store, stores, poured_by, copying, completed_by, completed}
 

@@ -14,7 +14,7 @@ use Rattle.sectors.proofs.Laws.{Handed, reading_handed}
 use Rattle.contents.specs.Content.{Missing, content_of}
 use Rattle.contents.proofs.Laws.{Given, reading_contents, reading_finds, reading_stop, reading_whole, writing_most, writing_all, writing_whole, writing_length}
 use Rattle.copying.specs.declared.route.Route.{Route}
-use Rattle.copying.specs.declared.route.End.TheVariants.{Going, SourceFault, TargetFault}
+use Rattle.copying.specs.Ends.{Going, SourceFault, TargetFault}
 use Rattle.copying.specs.Images.{image_of}
 use Rattle.copying.specs.Copying.{Copying, stopped, unless_ended, poured_by, copying}
 use Rattle.copying.specs.Listwise.{filled_by, Fitting}

@@ -2,13 +2,13 @@
 -- is searched for and written, before the next source sector.
 use Rattle.std.specs.Prelude.{ℕ, zero, suc, ◌/◌, List, [], ◌∷◌, ◌++◌, length, take, drop, set, replicate}
 use Rattle.geometry.specs.Params.{further}
-use Rattle.track.specs.declared.find.Sector.{Sector}
-use Rattle.track.specs.declared.find.Sector.TheVariants.{Slot, Fault}
+use Rattle.track.specs.Find.{Sector}
+use Rattle.track.specs.Find.{Slot, Fault}
 use Rattle.sectors.specs.Transfer.{found}
 use Rattle.contents.specs.Content.{Content, Bytes, Missing, content_of, put}
 use Rattle.copying.specs.declared.route.Route.{Route}
-use Rattle.copying.specs.declared.route.End.{End}
-use Rattle.copying.specs.declared.route.End.TheVariants.{Going, SourceFault, TargetFault, Short}
+use Rattle.copying.specs.Ends.{End}
+use Rattle.copying.specs.Ends.{Going, SourceFault, TargetFault, Short}
 use Rattle.copying.specs.Images.{image_of}
 
 -- What is done so far: source sectors read, destination sectors written, bytes read and not written, the last sector written.

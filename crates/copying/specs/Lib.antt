@@ -1,3 +1,4 @@
 pub mod Images
+pub mod Ends
 pub mod Copying
 pub mod Listwise

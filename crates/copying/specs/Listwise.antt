@@ -5,8 +5,8 @@ use Rattle.geometry.specs.Params.{address_count}
 use Rattle.track.specs.Image.{Fits}
 use Rattle.sectors.specs.Transfer.{Transfer, begun, reading, writing}
 use Rattle.copying.specs.declared.route.Route.{Route}
-use Rattle.copying.specs.declared.route.End.{End}
-use Rattle.copying.specs.declared.route.End.TheVariants.{Going, SourceFault, TargetFault, Short}
+use Rattle.copying.specs.Ends.{End}
+use Rattle.copying.specs.Ends.{Going, SourceFault, TargetFault, Short}
 use Rattle.copying.specs.Images.{image_of}
 use Rattle.copying.specs.Copying.{Copying}
 

@@ -1,4 +1,5 @@
 // Where a copy goes, and how it ended.
+use codes::Code;
 use geometry::params::{Lba, Params};
 
 // From address a of drive `source`, with parameters p, to address b of drive `target`, with parameters q.
@@ -12,19 +13,18 @@ pub struct Route {
     pub b: Lba,
 }
 
-// What ended a copy: nothing, a source or a destination sector that is not found, or a last sector completed with zeros.
+// What ended a copy: a source or a destination sector that is not found, or a last sector completed with zeros.
 #[derive(Clone, Copy)]
-pub enum End {
-    Going,
-    SourceFault(u8),
-    TargetFault(u8),
-    Short,
+pub enum CopyFault {
+    AtSource(Code),
+    AtTarget(Code),
+    PartlyFilled,
 }
 
-// Source sectors read, destination sectors written, and what ended it.
+// Source sectors read, destination sectors written, and what ended it, if anything did.
 #[derive(Clone, Copy)]
 pub struct Copied {
     pub read: usize,
     pub done: usize,
-    pub end: End,
+    pub fault: Option<CopyFault>,
 }

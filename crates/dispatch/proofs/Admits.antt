@@ -5,8 +5,8 @@ use mathlib.Core.List.{List}
 use native.Mathlib.Omega.{arith}
 use lib.ListN.{length}
 use Rattle.geometry.specs.declared.params.Params.{Params}
-use Rattle.geometry.specs.declared.config.Setting.{Setting}
-use Rattle.geometry.specs.declared.config.Setting.TheVariants.{Valid}
+use Rattle.geometry.specs.Config.{Setting}
+use Rattle.std.specs.Prelude.{Some}
 use Rattle.geometry.specs.Medium.{medium_of}
 use Rattle.geometry.proofs.Settings.{setting_within}
 use Rattle.track.specs.Image.{Fits}
@@ -72,7 +72,7 @@ module _ {b : Block} {entry : Drive} {given area image : ℕ} (ok : Admitted b e
 
 -- ---- parameters in force
 module _ {b : Block} {entry : Drive} {given area : ℕ} (image : List ℕ) {p : Params} (ok : Admitted b entry given area (length image))
-    (valid : setting_in (medium_of b.drive) entry (length image) ≡ Valid p) where
+    (valid : setting_in (medium_of b.drive) entry (length image) ≡ Some p) where
   fits : Fits p image
   fits =
       let medium = medium_of b.drive in

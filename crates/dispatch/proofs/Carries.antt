@@ -1,12 +1,13 @@
 -- What a command's function leaves is what the command leaves.
 use Prim.Native.Nat.{ℕ}
 use mathlib.Core.Path.{◌≡◌, refl}
+use mathlib.Core.Logic.{◌⊎◌, inl, inr}
 use mathlib.Core.List.{List, []}
 use lib.ListN.{length}
 use Rattle.base.specs.Part.{part, splice}
 use Rattle.geometry.specs.declared.params.Params.{Params}
-use Rattle.geometry.specs.declared.config.Setting.{Setting}
-use Rattle.geometry.specs.declared.config.Setting.TheVariants.{Valid, Invalid}
+use Rattle.geometry.specs.Config.{Setting}
+use Rattle.std.specs.Prelude.{Some, None}
 use Rattle.model.specs.declared.block.Block.{Block}
 use Rattle.model.specs.declared.table.Command.{Command}
 use Rattle.model.specs.declared.table.Command.TheVariants.{Free, OnDisk, Copy, Unknown}
@@ -91,12 +92,12 @@ module _ (b : Block) (p : Params) (given : List ℕ) (entry : Drive) (buffer are
 
 -- ---- any command
 module _ (b : Block) (setting : Setting) (given : List ℕ) (entry : Drive) (buffer area image : List ℕ) where
-  pub valid_carries : (p : Params) (command : DiskCommand) (x : Left) → setting ≡ Valid p
+  pub valid_carries : (p : Params) (command : DiskCommand) (x : Left) → setting ≡ Some p
       → x ≡ left_by (do_disk b p given entry buffer image command) area → x ≡ left_by (carry_out b setting given entry buffer image (OnDisk command)) area
   unfolding carry_out
   valid_carries p command x is e = rw is e
 
-  pub unset_carries : (command : DiskCommand) (r : Ending) → setting ≡ Invalid → r ≡ failed b.drive b.drive 0x0A b.address 0 0 entry
+  pub unset_carries : (command : DiskCommand) (r : Ending) → setting ≡ None → r ≡ failed b.drive b.drive 0x0A b.address 0 0 entry
       → left_now r buffer area image ≡ left_by (carry_out b setting given entry buffer image (OnDisk command)) area
   unfolding carry_out
   unset_carries command r is er = rw is (left_unhanded _ r buffer area image (rw er))
@@ -107,14 +108,14 @@ module _ (b : Block) (setting : Setting) (given : List ℕ) (entry : Drive) (buf
   free_carries command w x is e = rw is (by setting)
     where
       by : (s : Setting) → x ≡ left_by (carry_out b s given entry buffer image (Free w)) area
-      by Invalid = e
-      by (Valid p) = e
+      by None = e
+      by (Some p) = e
 
   pub disk_carries : (command : Command) (w : DiskCommand) (x : Left) → command ≡ OnDisk w
       → x ≡ left_by (carry_out b setting given entry buffer image (OnDisk w)) area → x ≡ left_by (carry_out b setting given entry buffer image command) area
   disk_carries command w x is e = rw is e
 
-  pub unknown_carries : (command : Command) (r : Ending) → command ≡ Unknown → r ≡ failed b.drive b.drive 0x20 b.address 0 0 entry
+  unknown_carries : (command : Command) (r : Ending) → command ≡ Unknown → r ≡ failed b.drive b.drive 0x20 b.address 0 0 entry
       → left_now r buffer area image ≡ left_by (carry_out b setting given entry buffer image command) area
   unfolding carry_out
   unknown_carries command r is er = rw is (left_unhanded _ r buffer area image (rw er (by setting)))
@@ -123,10 +124,10 @@ module _ (b : Block) (setting : Setting) (given : List ℕ) (entry : Drive) (buf
       fails = effect (failed b.drive b.drive 0x20 b.address 0 0 entry) buffer [] image
 
       by : (s : Setting) → fails ≡ carry_out b s given entry buffer image Unknown
-      by Invalid = refl
-      by (Valid p) = refl
+      by None = refl
+      by (Some p) = refl
 
-  pub copy_carries : (command : Command) (r : Ending) → command ≡ Copy → r ≡ failed b.drive b.drive 0x20 b.address 0 0 entry
+  copy_carries : (command : Command) (r : Ending) → command ≡ Copy → r ≡ failed b.drive b.drive 0x20 b.address 0 0 entry
       → left_now r buffer area image ≡ left_by (carry_out b setting given entry buffer image command) area
   unfolding carry_out
   copy_carries command r is er = rw is (left_unhanded _ r buffer area image (rw er (by setting)))
@@ -135,5 +136,10 @@ module _ (b : Block) (setting : Setting) (given : List ℕ) (entry : Drive) (buf
       fails = effect (failed b.drive b.drive 0x20 b.address 0 0 entry) buffer [] image
 
       by : (s : Setting) → fails ≡ carry_out b s given entry buffer image Copy
-      by Invalid = refl
-      by (Valid p) = refl
+      by None = refl
+      by (Some p) = refl
+
+  pub none_carries : (command : Command) (r : Ending) → (command ≡ Unknown) ⊎ (command ≡ Copy) → r ≡ failed b.drive b.drive 0x20 b.address 0 0 entry
+      → left_now r buffer area image ≡ left_by (carry_out b setting given entry buffer image command) area
+  none_carries command r (inl is) er = unknown_carries command r is er
+  none_carries command r (inr is) er = copy_carries command r is er

@@ -10,7 +10,7 @@ use Rattle.model.specs.declared.table.TrackCommand.TheVariants.{FormatDrive, Che
 use Rattle.model.specs.declared.table.SectorCommand.{SectorCommand}
 use Rattle.model.specs.declared.table.SectorCommand.TheVariants.{Read, Write}
 use Rattle.model.specs.declared.record.Drive.{Drive}
-use Rattle.model.specs.declared.verdict.Verdict.TheVariants.{Passed}
+use Rattle.model.specs.Verdicts.{Passed}
 use Rattle.model.specs.Checks.{judge}
 use Rattle.model.specs.Engine.{view_of}
 use Rattle.model.specs.Premises.{WellFormed, OnSectors}

@@ -23,13 +23,13 @@ use transfers::write::write;
 pub fn do_free(
     entry: Drive,
     b: Block,
-    buffer: &mut [u8],
+    buffer: &mut [u8; 512],
     given: &[u8],
     area: &mut [u8],
     image: &[u8],
     command: FreeCommand,
 ) -> Ending
-    requires { WellFormed b × FreeReady command (length given.now) (length area.old) × (length buffer.old ≡ 512) }
+    requires { WellFormed b × FreeReady command (length given.now) (length area.old) }
     ensures { left_now result buffer.new area.new image.now
         ≡ left_by (do_free b given.now entry buffer.old image.now command) area.old }
 {
@@ -49,9 +49,9 @@ pub fn do_arm(entry: Drive, b: Block, command: ArmCommand) -> Ending
 {
     let drive = b.drive;
     match command {
-        ArmCommand::TestReady => good(entry, drive, 0, 0),
-        ArmCommand::Recalibrate => good(entry, drive, 0, 0),
-        ArmCommand::Seek => good(entry, drive, 0, 0),
+        ArmCommand::TestReady | ArmCommand::Recalibrate | ArmCommand::Seek => {
+            good(entry, drive, 0, 0)
+        }
     }
 }
 
@@ -60,12 +60,12 @@ pub fn do_track(
     entry: Drive,
     b: Block,
     p: Params,
-    buffer: &[u8],
+    buffer: &[u8; 512],
     given: &[u8],
     image: &mut [u8],
     command: TrackCommand,
 ) -> Ending
-    requires { OnTrack b p image.old × TrackReady command (length given.now) × (length buffer.now ≡ 512) }
+    requires { OnTrack b p image.old × TrackReady command (length given.now) }
     ensures { made result image.new ≡ do_track b p buffer.now given.now entry image.old command }
 {
     match command {
@@ -82,13 +82,13 @@ pub fn do_sectors(
     entry: Drive,
     b: Block,
     p: Params,
-    buffer: &mut [u8],
+    buffer: &mut [u8; 512],
     given: &[u8],
     area: &mut [u8],
     image: &mut [u8],
     command: SectorCommand,
 ) -> Ending
-    requires { SectorReady command b p image.old (length given.now) (length area.old) × (length buffer.old ≡ 512) }
+    requires { SectorReady command b p image.old (length given.now) (length area.old) }
     ensures { left_now result buffer.new area.new image.new
         ≡ left_by (do_sectors b p given.now entry buffer.old image.old command) area.old }
 {

@@ -1,6 +1,5 @@
 // A command on its drive's entry and image, from its block on.
-ghost use Rattle.std.specs.Prelude.{◌≡◌, length};
-ghost use Rattle.geometry.specs.declared.config.Setting.TheVariants.{Valid};
+ghost use Rattle.std.specs.Prelude.{◌≡◌, Some, length};
 ghost use Rattle.geometry.specs.Medium.{medium_of};
 ghost use Rattle.model.specs.declared.table.Command.TheVariants.{OnDisk};
 ghost use Rattle.model.specs.Table.{row_for};
@@ -13,14 +12,14 @@ ghost use Rattle.dispatch.specs.Ready.{Admitted};
 
 use crate::groups::{do_arm, do_free, do_sectors, do_track};
 use checks::order::judge;
+use codes::Code;
 use drives::view::view_of;
 use endings::ending::{failed, refused};
-use geometry::config::Setting;
 use geometry::params::Params;
 use model::block::Block;
 use model::record::{Drive, Ending};
 use model::table::{Command, DiskCommand};
-use model::verdict::Verdict;
+use model::verdict::Stop;
 use table::rows::row_of;
 
 // A command that needs parameters, with those in force.
@@ -28,7 +27,7 @@ fn do_disk(
     entry: Drive,
     b: Block,
     p: Params,
-    buffer: &mut [u8],
+    buffer: &mut [u8; 512],
     given: &[u8],
     area: &mut [u8],
     image: &mut [u8],
@@ -36,7 +35,7 @@ fn do_disk(
 ) -> Ending
     requires { Admitted b entry (length given.now) (length area.old) (length image.old)
         × ((row_for b.opcode).command ≡ OnDisk command)
-        × (setting_in (medium_of b.drive) entry (length image.old) ≡ Valid p) × (length buffer.old ≡ 512) }
+        × (setting_in (medium_of b.drive) entry (length image.old) ≡ Some p) }
     ensures { left_now result buffer.new area.new image.new
         ≡ left_by (do_disk b p given.now entry buffer.old image.old command) area.old }
 {
@@ -51,8 +50,8 @@ fn do_disk(
 fn with_setting(
     entry: Drive,
     b: Block,
-    setting: Setting,
-    buffer: &mut [u8],
+    setting: Option<Params>,
+    buffer: &mut [u8; 512],
     given: &[u8],
     area: &mut [u8],
     image: &mut [u8],
@@ -60,21 +59,21 @@ fn with_setting(
 ) -> Ending
     requires { Admitted b entry (length given.now) (length area.old) (length image.old)
         × ((row_for b.opcode).command ≡ OnDisk command)
-        × (setting_in (medium_of b.drive) entry (length image.old) ≡ setting) × (length buffer.old ≡ 512) }
+        × (setting_in (medium_of b.drive) entry (length image.old) ≡ setting) }
     ensures { left_now result buffer.new area.new image.new
         ≡ left_by (carry_out b setting given.now entry buffer.old image.old (OnDisk command)) area.old }
 {
     match setting {
-        Setting::Valid(p) => do_disk(entry, b, p, buffer, given, area, image, command),
-        Setting::Invalid => failed(entry, b.drive, b.drive, 0x0A, b.address, 0, 0),
+        Some(p) => do_disk(entry, b, p, buffer, given, area, image, command),
+        None => failed(entry, b.drive, b.drive, Code::NoParameters, b.address, 0, 0),
     }
 }
 
 fn carry_out(
     entry: Drive,
     b: Block,
-    setting: Setting,
-    buffer: &mut [u8],
+    setting: Option<Params>,
+    buffer: &mut [u8; 512],
     given: &[u8],
     area: &mut [u8],
     image: &mut [u8],
@@ -82,16 +81,23 @@ fn carry_out(
 ) -> Ending
     requires { Admitted b entry (length given.now) (length area.old) (length image.old)
         × ((row_for b.opcode).command ≡ command)
-        × (setting_in (medium_of b.drive) entry (length image.old) ≡ setting) × (length buffer.old ≡ 512) }
+        × (setting_in (medium_of b.drive) entry (length image.old) ≡ setting) }
     ensures { left_now result buffer.new area.new image.new
         ≡ left_by (carry_out b setting given.now entry buffer.old image.old command) area.old }
 {
     match command {
         Command::Free(work) => do_free(entry, b, buffer, given, area, image, work),
         Command::OnDisk(work) => with_setting(entry, b, setting, buffer, given, area, image, work),
-        Command::Unknown => failed(entry, b.drive, b.drive, 0x20, b.address, 0, 0),
         // no block of six bytes is a Copy
-        Command::Copy => failed(entry, b.drive, b.drive, 0x20, b.address, 0, 0),
+        Command::Unknown | Command::Copy => failed(
+            entry,
+            b.drive,
+            b.drive,
+            Code::UnknownCommand,
+            b.address,
+            0,
+            0,
+        ),
     }
 }
 
@@ -99,12 +105,12 @@ fn carry_out(
 pub fn obey(
     entry: Drive,
     b: Block,
-    buffer: &mut [u8],
+    buffer: &mut [u8; 512],
     given: &[u8],
     area: &mut [u8],
     image: &mut [u8],
 ) -> Ending
-    requires { WellFormed b × (length buffer.old ≡ 512) }
+    requires { WellFormed b }
     ensures { left_now result buffer.new area.new image.new
         ≡ left_by (obey b given.now (length area.old) entry buffer.old image.old) area.old }
 {
@@ -112,10 +118,9 @@ pub fn obey(
     let command = row.command;
     let view = view_of(b.drive, entry, image.len());
     let setting = view.setting;
-    let verdict = judge(row, b, view, given.len(), area.len());
-    match verdict {
-        Verdict::Refused(number) => refused(entry, number),
-        Verdict::Faulty(code, at) => failed(entry, b.drive, b.drive, code, at, 0, 0),
-        Verdict::Passed => carry_out(entry, b, setting, buffer, given, area, image, command),
+    match judge(row, b, view, given.len(), area.len()) {
+        Err(Stop::Refuse(refusal)) => refused(entry, refusal),
+        Err(Stop::Fail(code, at)) => failed(entry, b.drive, b.drive, code, at, 0, 0),
+        Ok(()) => carry_out(entry, b, setting, buffer, given, area, image, command),
     }
 }

@@ -2,44 +2,31 @@
 use mathlib.Core.Path.{◌≡◌}
 use mathlib.Core.Bool.{Bool, true, false, not, ◌&&◌, ◌||◌}
 use mathlib.Core.List.{List}
-use Prim.Native.Nat.{ℕ, ◌+◌, ◌*◌}
+use Prim.Native.Nat.{ℕ}
 use lib.ListN.{length}
-use lib.Dec.{leb}
-use Rattle.base.specs.Byte.{byte}
 use Rattle.base.specs.Pick.{pick}
 use Rattle.base.specs.Part.{part}
 use Rattle.base.proofs.Bools.{test_on, test_off}
-use Rattle.geometry.specs.declared.params.Params.{Params}
 use Rattle.geometry.specs.declared.medium.Medium.{Medium}
-use Rattle.geometry.specs.declared.config.Setting.{Setting}
-use Rattle.geometry.specs.declared.config.Setting.TheVariants.{Valid, Invalid}
-use Rattle.geometry.specs.Medium.{medium_of, is_floppy}
-use Rattle.geometry.specs.Config.{setting_of, is_valid, label_holds, precompensation_in}
+use Rattle.geometry.specs.Config.{Setting, setting_of, is_valid, label_holds, precompensation_in}
+use Rattle.std.specs.Prelude.{is_some}
+use Rattle.geometry.specs.Medium.{medium_of}
+use Rattle.geometry.proofs.Settings.{valid_some}
 use Rattle.model.specs.declared.block.Block.{Block}
 use Rattle.model.specs.declared.record.Drive.{Drive}
 use Rattle.model.specs.declared.record.Ending.{Ending}
 use Rattle.model.specs.Record.{failed, good}
 use Rattle.model.specs.Commands.{initialized, initialized_by, initialize}
 
--- ---- The bound
-module _ (medium : Medium) (config : List ℕ) (floppy : Bool) (of : floppy ≡ is_floppy medium) where
-  pub bound_floppy : floppy ≡ true → true ≡ precompensation_in medium config
-  bound_floppy e = rw (← of, e)
-
-  pub bound_disk : floppy ≡ false → (first count : ℕ) → first ≡ byte config 7 * 256 + byte config 8 → count ≡ byte config 0 * 256 + byte config 1
-      → leb first count ≡ precompensation_in medium config
-  bound_disk e first count ef ec = rw (← of, e, ef, ec)
-
 -- ---- Whether bytes that no label holds may come in
-module _ (medium : Medium) (config : List ℕ) (image : ℕ) (setting : Setting) (is : setting ≡ setting_of medium config image) where
-  pub enter_invalid : setting ≡ Invalid → false ≡ (is_valid (setting_of medium config image) && precompensation_in medium config)
-  unfolding is_valid
-  enter_invalid e = rw (← is, e)
+module _ (medium : Medium) (config : List ℕ) (image : ℕ) (setting : Setting) (is : setting ≡ setting_of medium config image) {valid : Bool}
+    (by : valid ≡ is_some setting) where
+  pub enter_invalid : valid ≡ false → valid ≡ (is_valid (setting_of medium config image) && precompensation_in medium config)
+  enter_invalid e = rw (← is, ← valid_some setting, ← by, e)
 
-  pub enter_valid : (p : Params) → setting ≡ Valid p → (bound : Bool) → bound ≡ precompensation_in medium config
+  pub enter_valid : valid ≡ true → (bound : Bool) → bound ≡ precompensation_in medium config
       → bound ≡ (is_valid (setting_of medium config image) && precompensation_in medium config)
-  unfolding is_valid
-  enter_valid p e bound eb = rw (← is, e, eb)
+  enter_valid e bound eb = rw (← is, ← valid_some setting, ← by, e, eb)
 
 -- ---- What is left
 module _ (b : Block) (given : List ℕ) (entry : Drive) (image config : List ℕ) (medium : Medium) (held fits taken : Bool) (r : Ending)

@@ -4,33 +4,27 @@ ghost use Rattle.geometry.specs.Config.{setting_of, is_valid, precompensation_in
 ghost use Rattle.model.specs.Commands.{initialize};
 ghost use Rattle.model.specs.Premises.{WellFormed};
 
-use base::bytes::two_bytes;
-use base::logic::either;
+use codes::Code;
 use endings::ending::{failed, good};
-use geometry::config::{Setting, config_in, label_holds, setting_of};
-use geometry::medium::{Medium, is_floppy, medium_of};
+use geometry::config::{config_in, label_holds, setting_of};
+use geometry::medium::{Medium, medium_of};
 use model::block::Block;
 use model::record::{Drive, Ending};
 
 // Whether precompensation begins on the disk or at its end. Floppies' bytes 7 and 8 are not read.
+#[tactic(auto, unfolding(geometry::specs::Config::precompensation_in, geometry::specs::Medium::is_floppy))]
 fn precompensation_in(medium: Medium, config: [u8; 10]) -> bool
     ensures { result ≡ precompensation_in medium config }
 {
-    if is_floppy(medium) {
-        return true;
-    }
-    two_bytes(config[7], config[8]) <= two_bytes(config[0], config[1])
+    medium == Medium::Floppy
+        || u16::from_be_bytes([config[7], config[8]]) <= u16::from_be_bytes([config[0], config[1]])
 }
 
 // Whether bytes that no label holds may come into force: valid, with precompensation in its bound.
 fn may_come_in(medium: Medium, config: [u8; 10], image: usize) -> bool
     ensures { result ≡ (is_valid (setting_of medium config image) && precompensation_in medium config) }
 {
-    let setting = setting_of(medium, config, image);
-    match setting {
-        Setting::Invalid => false,
-        Setting::Valid(_) => precompensation_in(medium, config),
-    }
+    setting_of(medium, config, image).is_some() && precompensation_in(medium, config)
 }
 
 // The label's own bytes come into force, not pending; others pending, if they may come in; else 22h.
@@ -43,15 +37,15 @@ pub fn initialize(entry: Drive, b: Block, given: &[u8], image: &[u8]) -> Ending
     let medium = medium_of(drive);
     let held = label_holds(medium, image, config);
     let fits = may_come_in(medium, config, image.len());
-    if !either(held, fits) {
-        return failed(entry, drive, drive, 0x22, b.address, 0, 0);
+    let taken = held | fits;
+    if !taken {
+        return failed(entry, drive, drive, Code::NotValid, b.address, 0, 0);
     }
-    let sense = entry.sense;
     let next = Drive {
-        sense: sense,
-        config: config,
+        config,
         known: true,
         pending: !held,
+        ..entry
     };
     good(next, drive, 0, 0)
 }

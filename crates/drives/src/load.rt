@@ -3,7 +3,7 @@ ghost use Rattle.std.specs.Prelude.{◌≡◌};
 ghost use Rattle.model.specs.Record.{blank_drive};
 ghost use Rattle.model.specs.Engine.{loaded};
 
-use geometry::config::{Setting, config_in, label_setting};
+use geometry::config::{config_in, label_setting};
 use geometry::medium::medium_of;
 use model::record::Drive;
 
@@ -22,14 +22,12 @@ fn blank_drive() -> Drive
 pub fn load(drive: u8, image: &[u8]) -> Drive
     ensures { result ≡ loaded drive image.now }
 {
-    let setting = label_setting(medium_of(drive), image);
-    match setting {
-        Setting::Invalid => blank_drive(),
-        Setting::Valid(_) => Drive {
-            sense: [0; 4],
+    match label_setting(medium_of(drive), image) {
+        None => blank_drive(),
+        Some(_) => Drive {
             config: config_in(image),
             known: true,
-            pending: false,
+            ..blank_drive()
         },
     }
 }

@@ -1,22 +1,22 @@
 // Reset, and a fresh controller.
-ghost use Rattle.std.specs.Prelude.{◌≡◌};
-ghost use Rattle.model.specs.Engine.{images_of, fresh, reset_of};
+ghost use Rattle.std.specs.Prelude.{◌≡◌, map};
+ghost use Rattle.model.specs.Engine.{fresh, reset_of};
 
 use crate::load::load;
 use endings::ending::bare_answer;
 use model::record::{Controller, Outcome};
 
 // A fresh controller: as it is after Reset.
-pub fn fresh(image0: &[u8], image1: &[u8], image2: &[u8], image3: &[u8]) -> Controller
-    ensures { result ≡ fresh (images_of image0.now image1.now image2.now image3.now) }
+pub fn fresh(images: [&[u8]; 4]) -> Controller
+    ensures { result ≡ fresh (map (λ image. image.now) images.entry) }
 {
     Controller {
         buffer: [0; 512],
         drives: [
-            load(0, image0),
-            load(1, image1),
-            load(2, image2),
-            load(3, image3),
+            load(0, images[0]),
+            load(1, images[1]),
+            load(2, images[2]),
+            load(3, images[3]),
         ],
     }
 }
@@ -24,11 +24,11 @@ pub fn fresh(image0: &[u8], image1: &[u8], image2: &[u8], image3: &[u8]) -> Cont
 // Reset answers zeros.
 // In line first, so that the outcome stands on the stack once and not twice.
 #[inline(always)]
-pub fn reset(image0: &[u8], image1: &[u8], image2: &[u8], image3: &[u8]) -> Outcome
-    ensures { result ≡ reset_of (images_of image0.now image1.now image2.now image3.now) }
+pub fn reset(images: [&[u8]; 4]) -> Outcome
+    ensures { result ≡ reset_of (map (λ image. image.now) images.entry) }
 {
     Outcome {
-        controller: fresh(image0, image1, image2, image3),
+        controller: fresh(images),
         answer: bare_answer(0),
     }
 }

@@ -5,16 +5,10 @@ use Prim.Native.Nat.{ℕ}
 use Rattle.geometry.specs.declared.params.Lba.{Lba}
 use Rattle.model.specs.declared.record.Drive.{Drive}
 use Rattle.model.specs.declared.record.Ending.{Ending}
-use Rattle.model.specs.declared.verdict.Verdict.{Verdict}
-use Rattle.model.specs.declared.verdict.Verdict.TheVariants.{Refused, Faulty, Passed}
-use Rattle.model.specs.Record.{refused, failed, unless, unless_named, Made, made}
+use Rattle.model.specs.Verdicts.{Verdict, Faulty, Passed}
+use Rattle.model.specs.Record.{failed, unless, unless_named, Made, made}
 
 module _ (drive : ℕ) (entry : Drive) (image : List ℕ) (verdict : Verdict) (r : Ending) (x : Made) where
-  pub ends_refused : (number : ℕ) → verdict ≡ Refused number → r ≡ refused number entry
-      → made r image ≡ unless verdict drive entry (λ e. made e image) x
-  unfolding unless_named
-  ends_refused number ev er = rw (ev, er)
-
   pub ends_faulty : (code : ℕ) (at : Lba) → verdict ≡ Faulty code at → r ≡ failed drive drive code at 0 0 entry
       → made r image ≡ unless verdict drive entry (λ e. made e image) x
   unfolding unless_named

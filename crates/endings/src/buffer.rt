@@ -4,7 +4,6 @@ ghost use Rattle.base.specs.Part.{part, splice};
 ghost use Rattle.model.specs.Record.{good_answer, good};
 
 use crate::ending::good;
-use base::bytes::{copy_bytes, put_front};
 use model::record::{Answer, Drive, Ending};
 
 // Request Sense: the sense stays as it is.
@@ -14,9 +13,9 @@ pub fn request_sense(entry: Drive, drive: u8, area: &mut [u8]) -> Ending
         × (area.new ≡ splice 0 entry.sense area.old) }
 {
     let sense = entry.sense;
-    put_front(area, &sense);
+    area[..4].copy_from_slice(&sense);
     Ending {
-        entry: entry,
+        entry,
         answer: Answer {
             number: 0,
             status: 32 * drive,
@@ -27,18 +26,19 @@ pub fn request_sense(entry: Drive, drive: u8, area: &mut [u8]) -> Ending
     }
 }
 
-pub fn read_buffer(entry: Drive, drive: u8, buffer: &[u8], area: &mut [u8]) -> Ending
-    requires { (drive < 4) × (length buffer.now ≡ 512) × (512 ≤ length area.old) }
+pub fn read_buffer(entry: Drive, drive: u8, buffer: &[u8; 512], area: &mut [u8]) -> Ending
+    requires { (drive < 4) × (512 ≤ length area.old) }
     ensures { (result ≡ good drive 0 512 entry) × (area.new ≡ splice 0 buffer.now area.old) }
 {
-    put_front(area, buffer);
+    area[..512].copy_from_slice(buffer);
     good(entry, drive, 0, 512)
 }
 
-pub fn write_buffer(entry: Drive, drive: u8, buffer: &mut [u8], given: &[u8]) -> Ending
-    requires { (drive < 4) × (length buffer.old ≡ 512) × (512 ≤ length given.now) }
+#[tactic(auto, unfolding(base::specs::Part::part))]
+pub fn write_buffer(entry: Drive, drive: u8, buffer: &mut [u8; 512], given: &[u8]) -> Ending
+    requires { (drive < 4) × (512 ≤ length given.now) }
     ensures { (result ≡ good drive 0 0 entry) × (buffer.new ≡ part 0 512 given.now) }
 {
-    copy_bytes(buffer, &given[0..512]);
+    buffer.copy_from_slice(&given[..512]);
     good(entry, drive, 0, 0)
 }

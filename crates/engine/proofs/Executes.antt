@@ -46,10 +46,6 @@ on_image b given entry buffer area images r buffered after image k e h =
     lent_put k _ area images _ h
     ∙ ap (λ (n : ℕ). lent_by n (obey b given (length area) entry buffer (image_of n images)) area images) (sym e)
 
--- the fourth drive is none of the first three
-pub fourth : (drive : ℕ) → drive < 4 → (drive ≡ 0 → ⊥) → (drive ≡ 1 → ⊥) → (drive ≡ 2 → ⊥) → drive ≡ 3
-fourth drive h n₀ n₁ n₂ = omega arith
-
 pub copy_formed : (bytes : List ℕ) (k : CopyBlock) → k ≡ copy_of bytes → is_copy bytes ≡ true → ((i : ℕ) → byte bytes i < 256) → IsCopy k
 unfolding copy_of
 copy_formed bytes k e copy below =

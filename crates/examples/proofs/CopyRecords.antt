@@ -12,7 +12,7 @@ use Rattle.base.specs.First.{first_from, first_below}
 use Rattle.base.specs.Same.{same_bytes}
 use Rattle.geometry.specs.declared.params.Lba.{Lba}
 use Rattle.geometry.specs.declared.params.Params.{Params}
-use Rattle.geometry.specs.declared.config.Setting.TheVariants.{Valid}
+use Rattle.std.specs.Prelude.{Some}
 use Rattle.geometry.specs.Medium.{medium_of, is_floppy, is_in, ranges_of}
 use Rattle.geometry.specs.Config.{size_for, fitted_to, fields_in, setting_by, setting_of, is_valid, label_setting}
 use Rattle.track.specs.Id.{id_in, own_id}
@@ -67,8 +67,8 @@ lba a = record { 0 = a }
 
 -- in force are p and q; two sectors fill one, three fill two, the second in part; and what a Read of the floppy hands over
 facts :
-    (setting_in (medium_of 2) (drive_at start 2) (length (image_of 2 images)) ≡ Valid p)
-    × (setting_in (medium_of 0) (drive_at start 0) (length (image_of 0 images)) ≡ Valid q)
+    (setting_in (medium_of 2) (drive_at start 2) (length (image_of 2 images)) ≡ Some p)
+    × (setting_in (medium_of 0) (drive_at start 0) (length (image_of 0 images)) ≡ Some q)
     × ((made (copy 2 9)).outcome.answer ≡ record { number = 0; status = 0x40; message = 0; sectors = 1; bytes = 0 })
     × ((made (copy 3 9)).outcome.answer ≡ record { number = 0; status = 0x42; message = 0; sectors = 2; bytes = 0 })
     × ((reading p 3 (lba 3) (begun (image_of 2 images))).handed ≡ replicate 128 7 ++ (replicate 128 8 ++ replicate 128 9))
@@ -139,8 +139,8 @@ stays = (
 
 -- By the theorem: with good status both drives have parameters, all was read, and as many bytes are in the sectors done.
 all_there : (from : Params) × (to : Params)
-    × (setting_in (medium_of 2) (drive_at start 2) (length (image_of 2 images)) ≡ Valid from)
-    × (setting_in (medium_of 0) (drive_at start 0) (length (image_of 0 images)) ≡ Valid to)
+    × (setting_in (medium_of 2) (drive_at start 2) (length (image_of 2 images)) ≡ Some from)
+    × (setting_in (medium_of 0) (drive_at start 0) (length (image_of 0 images)) ≡ Some to)
     × ((reading from 2 (lba 3) (begun (image_of 2 images))).done ≡ 2)
     × ((made (copy 2 9)).outcome.answer.sectors * to.size ≡ 2 * from.size)
 unfolding lba made copy copy_of block_of count_of is_whole block_length is_copy pick GoodCopies
@@ -148,8 +148,8 @@ all_there = good_copies start (copy 2 9) [] [] images refl refl (answered.0 _ fa
 
 -- With 23h too, and the last sector done is not full.
 all_but_full : (from : Params) × (to : Params)
-    × (setting_in (medium_of 2) (drive_at start 2) (length (image_of 2 images)) ≡ Valid from)
-    × (setting_in (medium_of 0) (drive_at start 0) (length (image_of 0 images)) ≡ Valid to)
+    × (setting_in (medium_of 2) (drive_at start 2) (length (image_of 2 images)) ≡ Some from)
+    × (setting_in (medium_of 0) (drive_at start 0) (length (image_of 0 images)) ≡ Some to)
     × ((reading from 3 (lba 3) (begun (image_of 2 images))).done ≡ 3)
     × (3 * from.size < (made (copy 3 9)).outcome.answer.sectors * to.size)
     × ((made (copy 3 9)).outcome.answer.sectors * to.size < 3 * from.size + to.size)

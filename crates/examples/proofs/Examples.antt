@@ -12,8 +12,8 @@ use Rattle.geometry.specs.declared.params.Lba.{Lba}
 use Rattle.geometry.specs.declared.params.Track.{Track}
 use Rattle.geometry.specs.declared.params.Params.{Params}
 use Rattle.geometry.specs.declared.medium.Medium.TheVariants.{HardDisk}
-use Rattle.geometry.specs.declared.config.Setting.{Setting}
-use Rattle.geometry.specs.declared.config.Setting.TheVariants.{Valid, Invalid}
+use Rattle.geometry.specs.Config.{Setting}
+use Rattle.std.specs.Prelude.{Some, None}
 use Rattle.geometry.specs.Params.{image_length, track_count, track_of, cylinder_of, head_of, sector_of, track}
 use Rattle.geometry.specs.Medium.{medium_of, is_floppy, is_in, ranges_of}
 use Rattle.geometry.specs.Config.{size_for, fitted_to, fields_in, setting_by, setting_of, is_valid}
@@ -29,7 +29,7 @@ use Rattle.sectors.specs.Transfer.{begun, ended, read_slot, onward, found, readi
 use Rattle.model.specs.declared.block.Block.{Block}
 use Rattle.model.specs.declared.record.Drive.{Drive}
 use Rattle.model.specs.declared.record.Controller.{Controller}
-use Rattle.model.specs.declared.verdict.Verdict.TheVariants.{Faulty, Passed}
+use Rattle.model.specs.Verdicts.{Faulty, Passed}
 use Rattle.model.specs.Block.{block_of, count_of, from_buffer, keeps, alternate_of, is_copy, block_length, is_whole}
 use Rattle.model.specs.Table.{check_number, is_among, row_for}
 use Rattle.model.specs.declared.verdict.View.{View}
@@ -51,8 +51,8 @@ config high low heads size = high ∷ low ∷ heads ∷ 0 ∷ size ∷ 0 ∷ 0 �
 
 -- the image length of a configuration, in an image that is large enough
 length_of : Setting → ℕ
-length_of Invalid = 0
-length_of (Valid p) = image_length p
+length_of None = 0
+length_of (Some p) = image_length p
 
 length_for : List ℕ → ℕ
 length_for c = length_of (setting_of HardDisk c 100000000)

@@ -13,7 +13,7 @@ use Rattle.base.specs.First.{first_from, first_below, is_some, some_below}
 use Rattle.base.specs.Same.{same_bytes}
 use Rattle.geometry.specs.declared.params.Lba.{Lba}
 use Rattle.geometry.specs.declared.params.Params.{Params}
-use Rattle.geometry.specs.declared.config.Setting.TheVariants.{Valid, Invalid}
+use Rattle.std.specs.Prelude.{Some, None}
 use Rattle.geometry.specs.Medium.{medium_of, is_floppy, is_in, ranges_of}
 use Rattle.geometry.specs.Config.{size_for, fitted_to, fields_in, setting_by, setting_of, is_valid, label_setting, label_holds}
 use Rattle.interleave.specs.Layout.{empty_from, lay_at, place, laid, layout_of}
@@ -78,15 +78,15 @@ lba a = record { 0 = a }
 
 -- in force are p; both sectors are written; the addresses that the theorems are used for are not named
 facts :
-    (setting_in (medium_of 2) (drive_at made.outcome.controller 2) (length (image_of 2 made.images)) ≡ Valid p)
-    × (setting_in (medium_of 2) (drive_at wrote.outcome.controller 2) (length (image_of 2 wrote.images)) ≡ Valid p)
+    (setting_in (medium_of 2) (drive_at made.outcome.controller 2) (length (image_of 2 made.images)) ≡ Some p)
+    × (setting_in (medium_of 2) (drive_at wrote.outcome.controller 2) (length (image_of 2 wrote.images)) ≡ Some p)
     × (wrote.outcome.answer.sectors ≡ 2)
     × (content_of p (lba 17) (image_of 2 made.images) ≡ Bytes (replicate 128 0xE5))
     × (part 0 16 (image_of 2 made.images) ≡ config ++ replicate 6 0)
     × (part 4368 2 (image_of 2 made.images) ≡ 0xEE ∷ 0xED ∷ [])
     × ((drive_at made.outcome.controller 2).config ≡ config)
     × (image_of 3 made.images ≡ replicate 20 5)
-    × (setting_in (medium_of 3) (drive_at made.outcome.controller 3) (length (image_of 3 made.images)) ≡ Invalid)
+    × (setting_in (medium_of 3) (drive_at made.outcome.controller 3) (length (image_of 3 made.images)) ≡ None)
     × (is_good 2 wrote.outcome.answer ≡ true)
     × ((drive_at made.outcome.controller 2).known ≡ true)
 unfolding p start then block config sectors made wrote lba pick part splice rows first_from first_below is_some some_below same_bytes medium_of is_floppy

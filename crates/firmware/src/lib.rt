@@ -9,6 +9,7 @@ ghost use Rattle.engine.specs.Results.{result_now};
 use drives::reset::{fresh, reset};
 use engine::run::execute_on;
 use model::record::{Answer, Controller};
+use pouring::images::Images;
 
 // A command: any record, block, given data, data area and images: two hard disks, then two floppies.
 #[inline(always)]
@@ -28,17 +29,13 @@ pub extern "C" fn lanthewg_execute(
         ≡ execute c.old block.now given.now area.old
         (images_of image0.old image1.old image2.old image3.old) }
 {
-    let ran = execute_on(
-        c.drives,
-        &mut c.buffer,
-        block,
-        given,
-        area,
+    let mut images = Images {
         image0,
         image1,
         image2,
         image3,
-    );
+    };
+    let ran = execute_on(c.drives, &mut c.buffer, block, given, area, &mut images);
     let drives = ran.drives;
     c.drives = drives;
     ran.answer
@@ -56,7 +53,7 @@ pub extern "C" fn lanthewg_reset(
     ensures { record { controller = c.new; answer = result }
         ≡ reset_of (images_of image0.now image1.now image2.now image3.now) }
 {
-    let o = reset(image0, image1, image2, image3);
+    let o = reset([image0, image1, image2, image3]);
     *c = o.controller;
     o.answer
 }
@@ -72,5 +69,5 @@ pub extern "C" fn lanthewg_fresh(
 )
     ensures { c.new ≡ fresh (images_of image0.now image1.now image2.now image3.now) }
 {
-    *c = fresh(image0, image1, image2, image3);
+    *c = fresh([image0, image1, image2, image3]);
 }

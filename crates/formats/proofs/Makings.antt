@@ -4,10 +4,11 @@ use mathlib.Core.Bool.{Bool, true, false, not, ◌&&◌}
 use mathlib.Core.List.{List, ◌∷◌, ◌++◌}
 use Prim.Native.Nat.{ℕ, zero, suc, ◌+◌, ◌-◌, ◌≤◌, ◌<◌}
 use native.Mathlib.Omega.{arith}
-use lib.ListN.{length, take, replicate, length-append}
+use lib.ListN.{length, take, drop, replicate, length-append}
 use lib.Seq.{take_at}
 use Rattle.base.specs.Part.{part, splice}
 use Rattle.base.proofs.Decide.{pick_true, pick-false}
+use Rattle.base.proofs.Fronts.{front_lent}
 use Rattle.base.proofs.Parts.{part_lent}
 use Rattle.geometry.specs.declared.params.Params.{Params}
 use Rattle.geometry.specs.declared.params.Track.{Track}
@@ -41,16 +42,16 @@ pub plain_of : (drive : ℕ) (medium : Medium) (p : Params) (fill : List ℕ) �
 plain_of drive medium p fill em ef = ef ∙ ap (λ (m : Medium). plain_fill m p) em
 
 -- by control bit 5 and the drive's medium
-module _ (b : Block) (p : Params) (buffer : List ℕ) (medium : Medium) (em : medium ≡ medium_of b.drive) (bit floppy taken : Bool)
-    (eb : bit ≡ from_buffer b) (ef : floppy ≡ is_floppy medium) (et : taken ≡ (bit && not floppy)) where
-  asked : (from_buffer b && not (is_floppy (medium_of b.drive))) ≡ taken
-  asked = rw (← em, ← ef, ← eb) (sym et)
+module _ (b : Block) (p : Params) (buffer : List ℕ) (medium : Medium) (em : medium ≡ medium_of b.drive) (bit other : Bool)
+    (eb : bit ≡ from_buffer b) (eo : other ≡ not (is_floppy medium)) where
+  asked : (from_buffer b && not (is_floppy (medium_of b.drive))) ≡ (bit && other)
+  asked = rw (← em, ← eo, ← eb)
 
-  pub fill_taken : taken ≡ true → (fill : List ℕ) → fill ≡ buffer → part 0 p.size fill ≡ fill_of b p buffer
+  pub fill_taken : (bit && other) ≡ true → (fill : List ℕ) → fill ≡ buffer → part 0 p.size fill ≡ fill_of b p buffer
   unfolding fill_of
   fill_taken on fill is = ap (part 0 p.size) is ∙ sym (pick_true _ _ _ (asked ∙ on))
 
-  pub fill_plain : taken ≡ false → (fill : List ℕ) → part 0 p.size fill ≡ plain_fill medium p → part 0 p.size fill ≡ fill_of b p buffer
+  pub fill_plain : (bit && other) ≡ false → (fill : List ℕ) → part 0 p.size fill ≡ plain_fill medium p → part 0 p.size fill ≡ fill_of b p buffer
   unfolding fill_of
   fill_plain off fill is = plain_of b.drive medium p fill em is ∙ sym (pick-false _ _ _ (asked ∙ off))
 
@@ -77,9 +78,10 @@ module _ (b : Block) (p : Params) (fill image map : List ℕ) (h : b.extra < p.s
 pub label_long : (config copied : List ℕ) → length config ≡ 10 → copied ≡ config → length (copied ++ label_rest) ≡ 16
 label_long config copied h e = length-append copied label_rest ∙ ap (λ (l : List ℕ). length l + 6) e ∙ ap (λ (n : ℕ). n + 6) h
 
-pub label_put : (config copied image left : List ℕ) → copied ≡ config → left ≡ splice 0 (copied ++ label_rest) image
-    → left ≡ splice 0 (config ++ label_rest) image
-label_put config copied image left ec el = rw (← ec) el
+pub label_put : (config copied image left : List ℕ) → length config ≡ 10 → copied ≡ config → left ≡ copied ++ label_rest
+    → left ++ drop 16 image ≡ splice 0 (config ++ label_rest) image
+label_put config copied image left ten ec el =
+    rw (← ec) (front_lent (copied ++ label_rest) image left 16 (label_long config copied ten ec) el)
 
 -- ---- the sector's bytes lent of 512
 pub fill_lent : (size : ℕ) (fill : List ℕ) → take (size - 0) fill ≡ part 0 size fill

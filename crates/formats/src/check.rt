@@ -17,9 +17,8 @@ pub fn check_track(entry: Drive, b: Block, p: Params, image: &[u8]) -> Ending
     let at = b.address;
     let n = p.sectors;
     let map = layout(n, b.extra as usize);
-    let code = formatter::check::check_track(image, p, p.track_of(at), &map[0..n]);
-    if code != 0 {
-        return failed(entry, drive, drive, code, at, 0, 0);
+    match formatter::check::check_track(image, p, p.track_of(at), &map[0..n]) {
+        Err(code) => failed(entry, drive, drive, code, at, 0, 0),
+        Ok(()) => good(entry, drive, 0, 0),
     }
-    good(entry, drive, 0, 0)
 }

@@ -8,31 +8,39 @@ ghost use Rattle.model.specs.Commands.{plain_fill, fill_of, pending_ended, forma
 ghost use Rattle.model.specs.Premises.{OnTrack};
 
 use crate::making::{fill_of, make_at, make_drive, plain_fill};
+use codes::Code;
 use endings::ending::{failed, good};
 use geometry::medium::medium_of;
 use geometry::params::Params;
 use model::block::Block;
 use model::record::{Drive, Ending};
 use track::pair::{splits_pair, state_of};
-use track::state::{State, is_moved, is_taken};
+use track::state::State;
 
 // A drive is no longer pending.
 fn end_pending(entry: Drive) -> Drive
     ensures { result ≡ pending_ended entry }
 {
-    let mut other = entry;
-    other.pending = false;
-    other
+    Drive {
+        pending: false,
+        ..entry
+    }
 }
 
-pub fn format_drive(entry: Drive, b: Block, p: Params, buffer: &[u8], image: &mut [u8]) -> Ending
-    requires { OnTrack b p image.old × (length buffer.now ≡ 512) }
+pub fn format_drive(
+    entry: Drive,
+    b: Block,
+    p: Params,
+    buffer: &[u8; 512],
+    image: &mut [u8],
+) -> Ending
+    requires { OnTrack b p image.old }
     ensures { made result image.new ≡ format_drive b p buffer.now entry image.old }
 {
     let drive = b.drive;
     let at = b.address;
     if splits_pair(image, p, p.track_of(at)) {
-        return failed(entry, drive, drive, 0x1D, at, 0, 0);
+        return failed(entry, drive, drive, Code::Paired, at, 0, 0);
     }
     let size = p.size;
     let fill = fill_of(b, p, buffer);
@@ -57,19 +65,25 @@ fn format_track(
     let at = b.address;
     let t = p.track_of(at);
     let old = state_of(image, p, t);
-    if is_moved(old) {
-        return failed(entry, drive, drive, 0x1D, at, 0, 0);
+    if old.is_moved() {
+        return failed(entry, drive, drive, Code::Paired, at, 0, 0);
     }
-    if is_taken(old) {
-        return failed(entry, drive, drive, 0x1C, at, 0, 0);
+    if old.is_taken() {
+        return failed(entry, drive, drive, Code::Taken, at, 0, 0);
     }
     make_at(image, b, p, t, state, fill);
     good(entry, drive, 0, 0)
 }
 
 // Format Track.
-pub fn format_sound(entry: Drive, b: Block, p: Params, buffer: &[u8], image: &mut [u8]) -> Ending
-    requires { OnTrack b p image.old × (length buffer.now ≡ 512) }
+pub fn format_sound(
+    entry: Drive,
+    b: Block,
+    p: Params,
+    buffer: &[u8; 512],
+    image: &mut [u8],
+) -> Ending
+    requires { OnTrack b p image.old }
     ensures { made result image.new ≡ format_track b p Sound (fill_of b p buffer.now) entry image.old }
 {
     let size = p.size;

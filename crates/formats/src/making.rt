@@ -7,11 +7,9 @@ ghost use Rattle.track.specs.State.{partner_of};
 ghost use Rattle.track.specs.Image.{Fits};
 ghost use Rattle.model.specs.Commands.{plain_byte, plain_fill, fill_of, made_at, drive_formatted};
 
-use base::bytes::{copy_bytes, put_front};
-use base::logic::both;
 use checks::block::from_buffer;
 use formatter::format::{format_at, format_from};
-use geometry::medium::{Medium, is_floppy, medium_of};
+use geometry::medium::{Medium, medium_of};
 use geometry::params::{Params, Track};
 use interleave::layout;
 use model::block::Block;
@@ -36,14 +34,14 @@ pub fn plain_fill(medium: Medium, p: Params) -> [u8; 512]
 }
 
 // The first D bytes are what a format with this block fills sectors with.
-pub fn fill_of(b: Block, p: Params, buffer: &[u8]) -> [u8; 512]
-    requires { (p.size ≤ 512) × (length buffer.now ≡ 512) }
+pub fn fill_of(b: Block, p: Params, buffer: &[u8; 512]) -> [u8; 512]
+    requires { p.size ≤ 512 }
     ensures { (part 0 p.size result ≡ fill_of b p buffer.now) × (length result ≡ 512) }
 {
     let medium = medium_of(b.drive);
-    if both(from_buffer(b), !is_floppy(medium)) {
+    if from_buffer(b) & (medium != Medium::Floppy) {
         let mut fill = [0u8; 512];
-        copy_bytes(&mut fill, buffer);
+        fill.copy_from_slice(buffer);
         return fill;
     }
     plain_fill(medium, p)
@@ -66,8 +64,8 @@ fn write_label(image: &mut [u8], config: [u8; 10])
     ensures { image.new ≡ splice 0 (config ++ label_rest) image.old }
 {
     let mut label = [0u8; 16];
-    copy_bytes(&mut label[0..10], &config);
-    put_front(image, &label);
+    label[..10].copy_from_slice(&config);
+    image[..16].copy_from_slice(&label);
 }
 
 // Formats the tracks from the block's on, then writes the label.

@@ -22,10 +22,10 @@ use Rattle.interleave.proofs.Layouts.{layout_length}
 use Rattle.interleave.proofs.Slots.{sector_at, slot_of, slot_lt, sector_slot, slot_sector, slot_one}
 use Rattle.track.specs.declared.state.State.{State}
 use Rattle.track.specs.declared.state.State.TheVariants.{Sound, Bad, Moved, Taken}
-use Rattle.track.specs.declared.find.Where.TheVariants.{On, Off}
+use Rattle.track.specs.Find.{On, Off}
 use Rattle.track.specs.Id.{id_bytes, id_in, id_for, with_sector}
 use Rattle.track.specs.Image.{track_bytes, slot_id, slot_data, first_id}
-use Rattle.track.specs.declared.find.Sector.TheVariants.{Slot, Fault}
+use Rattle.track.specs.Find.{Slot, Fault}
 use Rattle.track.specs.Find.{where_of, holds, slot_used, sector_in, sector_from, sector_found}
 use Rattle.track.specs.Pair.{state_of}
 use Rattle.track.proofs.Laws.{id_back, sector_for, state_written, sound_written, bad_written, taken_written, moved_written, holds_written, used_holds, unused}

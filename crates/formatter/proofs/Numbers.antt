@@ -3,14 +3,14 @@
 use mathlib.Core.Path.{◌≡◌, refl, sym, ap, ap₂, ◌∙◌}
 use mathlib.Core.Bool.{Bool, true, false}
 use mathlib.Core.List.{List, [], ◌∷◌}
-use Prim.Native.Nat.{ℕ, zero, suc, ◌+◌, ◌*◌, ◌/◌, ◌%◌, ◌<◌}
+use Prim.Native.Nat.{ℕ, suc, ◌+◌, ◌*◌, ◌/◌, ◌%◌, ◌<◌}
 use native.Mathlib.Omega.{arith}
 use native.Mathlib.Decide.{ℕ_discrete}
-use lib.ListN.{length, take, drop, get_or, drop_of_length-le}
+use lib.ListN.{length, drop, get_or, drop_of_length-le}
 use lib.Seq.{drop-cons}
 use lib.Dec.{eqb}
 use borrow.Author.Tests.{eq-eqb, ne_eqb}
-use Rattle.base.specs.Part.{part}
+use Rattle.std.specs.Int.{from_be_bytes, w64}
 use Rattle.base.specs.Same.{same_bytes}
 use Rattle.base.proofs.Sames.{same_self, same_eq}
 use Rattle.track.specs.declared.id.Id.{Id}
@@ -26,37 +26,10 @@ pub low_of : (xs : List ℕ) → ((i : ℕ) → get_or xs i 0 < 256) → Low xs
 low_of [] h = low_none
 low_of (x ∷ xs) h = low_more (h 0) (low_of xs (λ i. h (suc i)))
 
-low_take : (n : ℕ) {xs : List ℕ} → Low xs → Low (take n xs)
-low_take zero l = low_none
-low_take (suc n) low_none = low_none
-low_take (suc n) (low_more h l) = low_more h (low_take n l)
-
-low_drop : (n : ℕ) {xs : List ℕ} → Low xs → Low (drop n xs)
-low_drop zero l = l
-low_drop (suc n) low_none = low_none
-low_drop (suc n) (low_more h l) = low_drop n l
-
-pub low_part : (at size : ℕ) {xs : List ℕ} → Low xs → Low (part at size xs)
-unfolding part
-low_part at size l = low_take size (low_drop at l)
-
--- ---- the number of eight bytes, byte after byte
-pub record Eight (bytes : List ℕ) : Type 0 where
-  pub b0 : get_or bytes 0 0 < 256
-  pub b1 : get_or bytes 1 0 < 256
-  pub b2 : get_or bytes 2 0 < 256
-  pub b3 : get_or bytes 3 0 < 256
-  pub b4 : get_or bytes 4 0 < 256
-  pub b5 : get_or bytes 5 0 < 256
-  pub b6 : get_or bytes 6 0 < 256
-  pub b7 : get_or bytes 7 0 < 256
-
-pub eight_of : (bytes : List ℕ) → ((i : ℕ) → get_or bytes i 0 < 256) → Eight bytes
-eight_of bytes h = record { b0 = h 0; b1 = h 1; b2 = h 2; b3 = h 3; b4 = h 4; b5 = h 5; b6 = h 6; b7 = h 7 }
-
+-- ---- the number of eight bytes, as std makes it
 pub number_eight : (bytes : List ℕ) → length bytes ≡ 8
-    → ((((((get_or bytes 0 0 * 256 + get_or bytes 1 0) * 256 + get_or bytes 2 0) * 256 + get_or bytes 3 0) * 256 + get_or bytes 4 0) * 256 + get_or bytes 5 0) * 256
-    + get_or bytes 6 0) * 256 + get_or bytes 7 0 ≡ number_of bytes
+    → from_be_bytes w64 (get_or bytes 0 0 ∷ get_or bytes 1 0 ∷ get_or bytes 2 0 ∷ get_or bytes 3 0 ∷ get_or bytes 4 0 ∷ get_or bytes 5 0 ∷ get_or bytes 6 0 ∷ get_or bytes 7 0 ∷ [])
+    ≡ number_of bytes
 unfolding number_from number_of
 number_eight bytes l =
     let on : (high i : ℕ) → i < 8 → number_from high (drop i bytes) ≡ number_from (high * 256 + get_or bytes i 0) (drop (suc i) bytes) =

@@ -1,10 +1,11 @@
 -- Tracks made sound from one on: what becomes of each track, and the loop that does it.
-use mathlib.Core.Path.{◌≡◌, refl, sym, ap, ◌∙◌}
+use mathlib.Core.Path.{◌≡◌, refl, ap, ◌∙◌}
 use mathlib.Core.List.{List}
 use Prim.Native.Nat.{ℕ, zero, suc, ◌+◌, ◌-◌, ◌≤◌, ◌<◌}
 use native.Mathlib.Omega.{arith}
 use native.Mathlib.Decide.{dec_lt}
 use native.Mathlib.Nat.{add-zero}
+use native.Mathlib.Numerals.{add-one}
 use lib.ListN.{length}
 use Rattle.geometry.specs.declared.params.Params.{Params}
 use Rattle.geometry.specs.declared.params.Track.{Track}
@@ -67,27 +68,16 @@ module _ (p : Params) (map fill : List ℕ) (lm : length map ≡ p.sectors) (lf 
           ap (λ (u : ℕ). track_bytes p t (with_track p (track u) (formatted p (track u) Sound map fill) (sound_from p map fill n s image))) e
           ∙ track_same p (sound_from p map fill n s image) (fits_sound n (omega arith)) t (formatted p t Sound map fill) (omega arith) (long t)
 
--- ---- the loop: what is left to do at track t gives what the whole was to give
-pub record Remade (p : Params) (map fill : List ℕ) (first : Track) (image₀ image : List ℕ) (t : Track) : Type 0 where
-  pub most : t.0 ≤ track_count p
-  pub rest : sound_from p map fill (track_count p - t.0) t image ≡ sound_from p map fill (track_count p - first.0) first image₀
-  pub len : length image ≡ length image₀
-
-module _ (p : Params) (map fill : List ℕ) (first : Track) (image₀ : List ℕ) where
-  pub remade_none : first.0 ≤ track_count p → Remade p map fill first image₀ image₀ first
-  remade_none h = record { most = h; rest = refl; len = refl }
-
-  pub remade_more : (image after : List ℕ) (t : Track) → length map ≡ p.sectors → length fill ≡ p.size → image_length p ≤ length image₀ → t.0 < track_count p → Remade p map fill first image₀ image t
-      → after ≡ with_track p t (formatted p t Sound map fill) image → Remade p map fill first image₀ after (next_track t)
+-- ---- the loop: what is left to do at track t gives what the whole was to give, and so it does after one more
+module _ (p : Params) (map fill whole : List ℕ) (t : ℕ) (image : List ℕ) where
+  pub remade_more : (after : List ℕ) → t < track_count p → sound_from p map fill (track_count p - t) (track t) image ≡ whole
+      → after ≡ with_track p (track t) (formatted p (track t) Sound map fill) image
+      → sound_from p map fill (track_count p - (t + 1)) (track (t + 1)) after ≡ whole
   unfolding sound_from
-  remade_more image after t lm lf l h done e =
-      let c : track_count p - t.0 ≡ suc (track_count p - suc t.0) = omega arith in
-      record {
-        most = omega arith;
-        rest = rw e (ap (λ (n : ℕ). sound_from p map fill n t image) (sym c) ∙ done.rest);
-        len = ap length e ∙ length_with_track p image (rw done.len l) t (formatted p t Sound map fill) h (length_formatted p t Sound map fill lm lf) ∙ done.len;
-      }
+  remade_more after h rest e =
+      let c : track_count p - t ≡ suc (track_count p - suc t) = omega arith in
+      rw (e, add-one) (rw c at rest)
 
-  pub remade_all : (image : List ℕ) (t : Track) → track_count p ≤ t.0 → Remade p map fill first image₀ image t → image ≡ sound_from p map fill (track_count p - first.0) first image₀
+  pub remade_all : track_count p ≤ t → sound_from p map fill (track_count p - t) (track t) image ≡ whole → image ≡ whole
   unfolding sound_from
-  remade_all image t h done = let c : track_count p - t.0 ≡ 0 = omega arith in rw c at done.rest
+  remade_all h rest = let c : track_count p - t ≡ 0 = omega arith in rw c at rest

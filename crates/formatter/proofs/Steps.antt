@@ -6,11 +6,11 @@ use Prim.Native.Nat.{ℕ, zero, suc, ◌+◌, ◌-◌, ◌*◌, ◌≤◌, ◌<�
 use native.Mathlib.Omega.{arith}
 use native.Mathlib.Nat.{zero-mul, suc-mul}
 use native.Mathlib.Numerals.{add-one}
-use lib.ListN.{length, take, drop, get_or, length-append, drop_of_length-le}
+use lib.ListN.{length, take, drop, get_or, drop_of_length-le}
 use lib.Seq.{take_at, drop-drop, take_all, take-add, length-take-le, drop-append-add}
 use borrow.Rule.Slice.PartMut.{put_mid}
 use Rattle.base.specs.Part.{part, splice}
-use Rattle.base.proofs.Parts.{length_splice, row_front, cell_in, splice_lent, splice_on, splice_all}
+use Rattle.base.proofs.Parts.{length_splice, row_front, cell_in, splice_lent}
 use Rattle.geometry.specs.declared.params.Params.{Params}
 use Rattle.geometry.specs.declared.params.Track.{Track}
 use Rattle.geometry.specs.Params.{track_count, track_size, image_length, track_start}
@@ -76,40 +76,13 @@ module _ (id : Id) (map fill : List ℕ) where
         let none : drop (length map * (8 + length fill)) track ≡ [] = drop_of_length-le track {i = length map * (8 + length fill)} (omega arith) in
         rw (done, none, append-nil)
 
--- ---- the loop over the steps
-pub record Walked (id : Id) (map fill track₀ track : List ℕ) (count k : ℕ) : Type 0 where
-  pub most : k ≤ count
-  pub is : track ≡ after_steps id map fill k track₀
-
-module _ (id : Id) (map fill track₀ : List ℕ) (count : ℕ) where
-  pub walked_none : Walked id map fill track₀ track₀ count 0
-  unfolding after_steps
-  walked_none = record { most = omega arith; is = refl }
-
-  module _ (track : List ℕ) (k : ℕ) (w : Walked id map fill track₀ track count k) where
-    pub walked_more : (next : List ℕ) → k < count → next ≡ stepped id map fill k track → Walked id map fill track₀ next count (k + 1)
-    unfolding after_steps
-    walked_more next h e = record { most = omega arith; is = e ∙ ap (stepped id map fill k) w.is ∙ rw add-one }
-
-    module _ (within : count ≤ length map) where
-      pub walked_length : length track₀ ≡ length map * (8 + length fill) → length track ≡ length track₀
-      walked_length whole = ap length w.is ∙ length_after id map fill track₀ whole k (omega (arith, w.most))
-
-      pub walked_all : count ≤ k → track ≡ under_way id map fill count track₀
-      walked_all h = let e : k ≡ count = omega (arith, w.most) in w.is ∙ after_steps_lem id map fill k track₀ (omega (arith, w.most)) ∙ rw e
+-- ---- the loop over the steps: one more
+pub steps_more : (id : Id) (map fill track₀ track next : List ℕ) (k : ℕ) → track ≡ after_steps id map fill k track₀ → next ≡ stepped id map fill k track
+    → next ≡ after_steps id map fill (k + 1) track₀
+unfolding after_steps
+steps_more id map fill track₀ track next k done e = e ∙ ap (stepped id map fill k) done ∙ rw add-one
 
 -- ---- one slot: the ID bytes, then the data, each in its part, which is lent
-pub slot_written : (id fill slot first second : List ℕ) → length slot ≡ length id + length fill → first ≡ id → second ≡ fill
-    → put_mid (length id) (length slot - length id) (put_mid 0 (length id - 0) slot first) second ≡ id ++ fill
-slot_written id fill slot first second l e f =
-    let front : put_mid 0 (length id - 0) slot first ≡ splice 0 id slot = rw e (splice_lent 0 (length id) slot id (omega arith)) in
-    let back = splice_lent (length id) (length slot) (splice 0 id slot) fill (omega arith) in
-    rw (front, f) (back ∙ splice_on id fill slot (length id) refl ∙ splice_all (id ++ fill) slot (omega (arith, length-append id fill)))
-
--- slot k is within the track
-pub step_room : (map fill track : List ℕ) (k : ℕ) → length track ≡ length map * (8 + length fill) → k < length map → k * (8 + length fill) + 8 + length fill ≤ length track
-step_room map fill track k whole h = omega (arith, whole, cell_in (8 + length fill) k (length map) h)
-
 -- a step: the slot in its part of the track, which is lent
 pub step_lent : (id other : Id) (map fill track bytes slot : List ℕ) (k : ℕ) → other ≡ with_sector id (get_or map k 0) → bytes ≡ id_bytes other → slot ≡ bytes ++ fill
     → put_mid (k * (8 + length fill)) (k * (8 + length fill) + 8 + length fill - k * (8 + length fill)) track slot ≡ stepped id map fill k track

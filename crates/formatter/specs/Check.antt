@@ -8,8 +8,8 @@ use Rattle.geometry.specs.declared.params.Track.{Track}
 use Rattle.track.specs.declared.id.Id.{Id}
 use Rattle.track.specs.declared.state.State.{State}
 use Rattle.track.specs.declared.state.State.TheVariants.{Sound, Taken}
-use Rattle.track.specs.declared.find.Where.{Where}
-use Rattle.track.specs.declared.find.Where.TheVariants.{On, Off}
+use Rattle.track.specs.Find.{Where}
+use Rattle.track.specs.Find.{On, Off}
 use Rattle.track.specs.Id.{id_bytes, id_for, with_sector}
 use Rattle.track.specs.Image.{track_bytes, slot_id}
 use Rattle.track.specs.Find.{where_of}

@@ -2,4 +2,5 @@
 #![tactic(auto)]
 
 pub mod check;
+mod fill;
 pub mod format;

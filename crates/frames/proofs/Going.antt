@@ -4,7 +4,7 @@ use mathlib.Core.Path.{◌≡◌, refl, sym, ap, ◌∙◌}
 use mathlib.Core.List.{List, [], ◌∷◌, ◌++◌, append_assoc, append-nil}
 use native.Mathlib.Omega.{arith}
 use lib.ListN.{length, take, drop, replicate, length-take, length-drop, take-append-drop, drop_of_length-le}
-use lib.Seq.{take_all, take-take, take-add, drop-drop}
+use lib.Seq.{take_all, take-take, take-add}
 use Rattle.std.specs.Prelude.{Option, None, Some, Result, Ok, Err, OnOk, OnErr}
 use Rattle.std.specs.Io.KnownBytes.{Appends, Consumes, Keeps, IsAtEnd}
 use Rattle.std.proofs.KnownBytes.{Appends-nil, Appends-trans, Appends-kept, Consumes-nil, Consumes-trans, Consumes-kept}
@@ -34,13 +34,13 @@ pub heard_text : (spoken : Spoken) (heard : Heard) (before text bytes area : Lis
     → Speaks spoken heard before text bytes area images → take heard.length text ≡ spoken.text
 heard_text spoken heard before text bytes area images s = front_taken spoken.text before text heard.length s.1 s.2
 
--- ---- a part of the input is taken up to the line's end: something of it, and no more than there is
-pub taken_part : (input : List ℕ) (at n : ℕ) → at < length input → n ≡ line_end (take (length input - at) (drop at input))
-    → (0 < n) × (at + n ≤ length input)
+-- ---- what is left of the input is taken up to the line's end: something of it, and no more than there is
+pub taken_part : (rest : List ℕ) (n : ℕ) → 0 < length rest → n ≡ line_end rest → (0 < n) × (n ≤ length rest)
 unfolding line_end
-taken_part input at n h e =
-    let l : length (take (length input - at) (drop at input)) ≡ length input - at = rw (length-take, length-drop) (omega arith) in
-    (omega arith, omega arith)
+taken_part rest n h e = (omega arith, omega arith)
+
+pub left_less : (rest : List ℕ) (n : ℕ) → (0 < n) × (n ≤ length rest) → length (take (length rest - n) (drop n rest)) < length rest
+left_less rest n part = simp (length-take, length-drop) (omega (arith, part.0, part.1))
 
 -- ---- texts that are written one behind the other
 pub front_all : {held holds : Option (List ℕ)} {text : List ℕ} → Appends held holds text → WritesFront held holds text
@@ -97,11 +97,11 @@ behind_behind : (a b : List ℕ) (s : Spoken) → spoken_behind (a ++ b) s ≡ s
 unfolding spoken_behind
 behind_behind a b s = rw (append_assoc a b s.text)
 
-module _ (whole : Spoken) (held holds : Option (List ℕ)) (x : Talk) (input : List ℕ) (at : ℕ) (f : Fed whole held holds x (drop at input)) where
-  module _ (at_end : length input ≤ at) where
+module _ (whole : Spoken) (held holds : Option (List ℕ)) (x : Talk) (rest : List ℕ) (f : Fed whole held holds x rest) where
+  module _ (at_end : length rest ≡ 0) where
     fed_all : spoken_behind f.said (record { talk = x; text = [] }) ≡ whole
     unfolding talked
-    fed_all = rw (drop_of_length-le input {i = at} at_end) at f.is
+    fed_all = rw (drop_of_length-le rest {i = 0} (omega arith)) at f.is
 
     pub fed_talk : x ≡ whole.talk
     unfolding spoken_behind
@@ -115,31 +115,27 @@ module _ (whole : Spoken) (held holds : Option (List ℕ)) (x : Talk) (input : L
 
   module _ (n : ℕ) where
     abbrev line : List ℕ
-    line = take n (take (length input - at) (drop at input))
-
-    line_rest : line ++ drop (at + n) input ≡ drop at input
-    line_rest =
-        let all : take (length input - at) (drop at input) ≡ drop at input = take_all (length input - at) (drop at input) (simp length-drop (omega arith)) in
-        let on : drop n (drop at input) ≡ drop (at + n) input = drop-drop n at input in
-        rw (all, ← on) (take-append-drop n (drop at input))
+    line = take n rest
 
     -- the line is heard, and then the rest
-    cut : spoken_behind f.said (spoken_behind (talked x line).text (talked (talked x line).talk (drop (at + n) input))) ≡ whole
-    cut = ap (spoken_behind f.said) (sym (talked_cut x line (drop (at + n) input)) ∙ ap (talked x) line_rest) ∙ f.is
+    cut : spoken_behind f.said (spoken_behind (talked x line).text (talked (talked x line).talk (drop n rest))) ≡ whole
+    cut = ap (spoken_behind f.said) (sym (talked_cut x line (drop n rest)) ∙ ap (talked x) (take-append-drop n rest)) ∙ f.is
 
     pub fed_more : (y : Talk) (now : Option (List ℕ)) → y ≡ (talked x line).talk → Appends holds now (talked x line).text
-        → Fed whole held now y (drop (at + n) input)
-    fed_more y now e a = record {
-      said = f.said ++ (talked x line).text;
-      written = Appends-trans held holds now f.said (talked x line).text f.written a;
-      is = rw e (behind_behind f.said (talked x line).text (talked (talked x line).talk (drop (at + n) input)) ∙ cut);
-    }
+        → Fed whole held now y (take (length rest - n) (drop n rest))
+    fed_more y now e a =
+        rw (take_all (length rest - n) (drop n rest) (simp length-drop (omega arith)))
+        (record {
+          said = f.said ++ (talked x line).text;
+          written = Appends-trans held holds now f.said (talked x line).text f.written a;
+          is = rw e (behind_behind f.said (talked x line).text (talked (talked x line).talk (drop n rest)) ∙ cut);
+        })
 
     pub fed_cut : (now : Option (List ℕ)) → WritesFront holds now (talked x line).text → WritesFront held now whole.text
     unfolding spoken_behind
     fed_cut now w =
         rw (sym (ap (λ (s : Spoken). s.text) cut))
-        (front_behind held holds now f.said (talked x line).text (talked (talked x line).talk (drop (at + n) input)).text f.written w)
+        (front_behind held holds now f.said (talked x line).text (talked (talked x line).talk (drop n rest)).text f.written w)
 
 -- ---- piece after piece
 pub onward_none : (x : Talk) (given held : Option (List ℕ)) → Onward x x given given held held

@@ -4,7 +4,7 @@
 
 ghost use Rattle.std.specs.Prelude.{◌≡◌, ℕ, ◌≤◌, ◌<◌, length, take, IfOk, OnOk, OnErr};
 ghost use Rattle.std.specs.Io.KnownBytes.{Appends, Consumes, IsAtEnd, Keeps};
-ghost use Rattle.model.specs.Engine.{images_of};
+ghost use Rattle.pouring.specs.Lent.{lent, SameLent};
 ghost use Rattle.lines.specs.Talk.{talked};
 ghost use Rattle.lines.specs.Frames.{Talking};
 ghost use Rattle.lines.specs.Hearing.{talk_now, text_length};
@@ -12,6 +12,7 @@ ghost use Rattle.frames.specs.Onward.{WritesFront, Onward, CutOff, Served, Faile
 
 use lines::talk::{Session, begin, close, hear};
 use lines::{AREA_LENGTH, IMAGE_LENGTH, LINE_LENGTH, TEXT_LENGTH};
+use pouring::images::Images;
 use std::io;
 use std::io::{ErrorKind, Read, Write};
 
@@ -75,43 +76,32 @@ fn feed<W: Write>(
     input: &[u8],
     bytes: &mut [u8],
     area: &mut [u8],
-    image0: &mut [u8],
-    image1: &mut [u8],
-    image2: &mut [u8],
-    image3: &mut [u8],
+    images: &mut Images,
     text: &mut [u8],
 ) -> Went
-    requires talking { Talking (talk_now first bytes.old area.old (images_of image0.old image1.old image2.old image3.old)) }
+    requires talking { Talking (talk_now first bytes.old area.old (lent images.old)) }
     requires text_length_in_bounds { text_length ≤ length text.old }
-    ensures talking_after { Talking (talk_now result.session bytes.new area.new
-        (images_of image0.new image1.new image2.new image3.new)) }
-    ensures heard { OnOk result.going (talk_now result.session bytes.new area.new
-        (images_of image0.new image1.new image2.new image3.new)
-        ≡ (talked (talk_now first bytes.old area.old
-        (images_of image0.old image1.old image2.old image3.old)) input.now).talk) }
+    ensures talking_after { Talking (talk_now result.session bytes.new area.new (lent images.new)) }
+    ensures heard { OnOk result.going (talk_now result.session bytes.new area.new (lent images.new)
+        ≡ (talked (talk_now first bytes.old area.old (lent images.old)) input.now).talk) }
     ensures said { OnOk result.going (Appends (W.contents writer.old) (W.contents writer.new)
-        (talked (talk_now first bytes.old area.old
-        (images_of image0.old image1.old image2.old image3.old)) input.now).text) }
+        (talked (talk_now first bytes.old area.old (lent images.old)) input.now).text) }
     ensures cut { OnErr result.going (WritesFront (W.contents writer.old) (W.contents writer.new)
-        (talked (talk_now first bytes.old area.old
-        (images_of image0.old image1.old image2.old image3.old)) input.now).text) }
+        (talked (talk_now first bytes.old area.old (lent images.old)) input.now).text) }
+    ensures same { SameLent images.old images.new }
 {
-    let end = input.len();
     let mut here = first;
-    let mut at = 0;
-    while at < end {
-        let new = &input[at..end];
-        let got = hear(here, new, bytes, area, image0, image1, image2, image3, text);
+    let mut rest = input;
+    while !rest.is_empty() {
+        let got = hear(here, rest, bytes, area, images, text);
         here = got.session;
-        let n = got.length;
-        if let Err(e) = say(writer, text, n) {
+        if let Err(e) = say(writer, text, got.length) {
             return Went {
                 session: here,
                 going: Err(e),
             };
         }
-        let taken = got.taken;
-        at += taken;
+        rest = &rest[got.taken..];
     }
     Went {
         session: here,
@@ -129,25 +119,19 @@ fn converse<R: Read, W: Write>(
     input: &mut [u8],
     bytes: &mut [u8],
     area: &mut [u8],
-    image0: &mut [u8],
-    image1: &mut [u8],
-    image2: &mut [u8],
-    image3: &mut [u8],
+    images: &mut Images,
     text: &mut [u8],
 ) -> Went
-    requires talking { Talking (talk_now first bytes.old area.old (images_of image0.old image1.old image2.old image3.old)) }
+    requires talking { Talking (talk_now first bytes.old area.old (lent images.old)) }
     requires text_length_in_bounds { text_length ≤ length text.old }
-    ensures talking_after { Talking (talk_now result.session bytes.new area.new
-        (images_of image0.new image1.new image2.new image3.new)) }
-    ensures onward { OnOk result.going (Onward (talk_now first bytes.old area.old
-        (images_of image0.old image1.old image2.old image3.old))
-        (talk_now result.session bytes.new area.new
-        (images_of image0.new image1.new image2.new image3.new))
+    ensures talking_after { Talking (talk_now result.session bytes.new area.new (lent images.new)) }
+    ensures onward { OnOk result.going (Onward (talk_now first bytes.old area.old (lent images.old))
+        (talk_now result.session bytes.new area.new (lent images.new))
         (R.remaining reader.old) (R.remaining reader.new) (W.contents writer.old) (W.contents writer.new)) }
     ensures end { OnOk result.going (0 < length input.old → IsAtEnd (R.remaining reader.new)) }
-    ensures cut { OnErr result.going (CutOff (talk_now first bytes.old area.old
-        (images_of image0.old image1.old image2.old image3.old))
+    ensures cut { OnErr result.going (CutOff (talk_now first bytes.old area.old (lent images.old))
         (R.remaining reader.old) (R.remaining reader.new) (W.contents writer.old) (W.contents writer.new)) }
+    ensures same { SameLent images.old images.new }
 {
     let mut session = first;
     for _ in 0..u64::MAX {
@@ -166,27 +150,13 @@ fn converse<R: Read, W: Write>(
                 going: Ok(()),
             };
         }
-        let went = feed(
-            writer,
-            session,
-            &input[..n],
-            bytes,
-            area,
-            image0,
-            image1,
-            image2,
-            image3,
-            text,
-        );
+        let went = feed(writer, session, &input[..n], bytes, area, images, text);
         session = went.session;
-        match went.going {
-            Ok(()) => {}
-            Err(e) => {
-                return Went {
-                    session,
-                    going: Err(e),
-                };
-            }
+        if let Err(e) = went.going {
+            return Went {
+                session,
+                going: Err(e),
+            };
         }
     }
     Went {
@@ -211,7 +181,13 @@ fn run<R: Read, W: Write>(reader: &mut R, writer: &mut W) -> io::Result<()>
     let mut bytes = [0u8; LINE_LENGTH];
     let mut text = [0u8; TEXT_LENGTH];
     let mut input = [0u8; 4096];
-    let first = begin(&bytes, &area, &image0, &image1, &image2, &image3);
+    let mut images = Images {
+        image0: &mut image0,
+        image1: &mut image1,
+        image2: &mut image2,
+        image3: &mut image3,
+    };
+    let first = begin(&bytes, &area, &images);
     let last = converse(
         reader,
         writer,
@@ -219,27 +195,16 @@ fn run<R: Read, W: Write>(reader: &mut R, writer: &mut W) -> io::Result<()>
         &mut input,
         &mut bytes,
         &mut area,
-        &mut image0,
-        &mut image1,
-        &mut image2,
-        &mut image3,
+        &mut images,
         &mut text,
     );
     let session = last.session;
+    // By a match: behind `last.going?` the proof does not find that it was `Ok` (tried).
     match last.going {
         Ok(()) => {}
         Err(e) => return Err(e),
     }
-    let heard = close(
-        session,
-        &bytes,
-        &mut area,
-        &mut image0,
-        &mut image1,
-        &mut image2,
-        &mut image3,
-        &mut text,
-    );
+    let heard = close(session, &bytes, &mut area, &mut images, &mut text);
     let n = heard.length;
     say(writer, &text, n)
 }

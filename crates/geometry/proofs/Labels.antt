@@ -1,21 +1,24 @@
 -- What a label gives, as the code decides on it. An image under 16 bytes has no six bytes from place 10 on.
 use mathlib.Core.Path.{◌≡◌, refl, sym, ap, ◌∙◌}
 use mathlib.Core.Bool.{Bool, true, false, not}
-use mathlib.Core.List.{List, [], ◌∷◌, ◌++◌}
+use mathlib.Core.List.{List, ◌++◌}
 use Prim.Native.Nat.{ℕ, ◌+◌, ◌≤◌, ◌<◌}
 use native.Mathlib.Omega.{arith}
 use native.Mathlib.Decide.{dec_lt}
 use lib.ListN.{length, take, drop, length-take, length-drop, length-append}
 use lib.Seq.{take_all}
+use lib.Dec.{eqb}
+use lib.Pointwise.{pointwise}
 use Rattle.base.specs.Part.{part}
 use Rattle.base.specs.Same.{same_bytes}
-use Rattle.base.proofs.Decide.{pick_true, pick-false, pick-not-true, pick-not-false}
+use Rattle.base.proofs.Decide.{pick_true, pick-false}
 use Rattle.base.proofs.Parts.{part_left, part_right, part_part}
-use Rattle.base.proofs.Sames.{same_self, same_eq}
+use Rattle.base.proofs.Bools.{not-true, not-false}
+use Rattle.base.proofs.Sames.{same_self, same_eq, same_pointwise}
 use Rattle.geometry.specs.declared.params.Params.{Params}
 use Rattle.geometry.specs.declared.medium.Medium.{Medium}
-use Rattle.geometry.specs.declared.config.Setting.{Setting}
-use Rattle.geometry.specs.declared.config.Setting.TheVariants.{Valid, Invalid}
+use Rattle.geometry.specs.Config.{Setting}
+use Rattle.std.specs.Prelude.{Some, None}
 use Rattle.geometry.specs.Config.{setting_of, is_valid, label_config, label_rest, label_setting, label_holds}
 use Rattle.geometry.proofs.Settings.{setting_ten}
 
@@ -32,47 +35,53 @@ unfolding part
 part_short at size xs s h e = omega (arith, simp (length-take, length-drop) at e)
 
 module _ (medium : Medium) (image : List ℕ) where
-  pub label_short : length image < 16 → Invalid ≡ label_setting medium image
+  pub label_short : length image < 16 → None ≡ label_setting medium image
   unfolding label_setting
   label_short h = sym (pick-false _ _ _ (not_same _ _ (part_short 10 6 image (omega arith) h)))
 
-  module _ (zeros : Bool) (is : zeros ≡ same_bytes (take 6 (drop 10 image)) (0 ∷ 0 ∷ 0 ∷ 0 ∷ 0 ∷ 0 ∷ [])) where
-    pub label_other : not zeros ≡ true → Invalid ≡ label_setting medium image
-    unfolding label_setting part
-    label_other t = sym (pick-not-true _ _ _ (ap not (sym is) ∙ t))
+  -- as the code compares the six bytes
+  module _ (differ : Bool) (is : differ ≡ not (pointwise eqb (take 6 (drop 10 image)) label_rest)) where
+    zeros : (b : Bool) → pointwise eqb (take 6 (drop 10 image)) label_rest ≡ b → same_bytes (part 10 6 image) label_rest ≡ b
+    unfolding part
+    zeros b e = sym (same_pointwise _ _) ∙ e
 
-    pub label_zeros : not zeros ≡ false → (config : List ℕ) → config ≡ label_config image → (s : Setting) → s ≡ setting_of medium config (length image)
+    pub label_other : differ ≡ true → None ≡ label_setting medium image
+    unfolding label_setting
+    label_other t = sym (pick-false _ _ _ (zeros false (not-true _ (sym is ∙ t))))
+
+    pub label_zeros : differ ≡ false → (config : List ℕ) → config ≡ label_config image → (s : Setting) → s ≡ setting_of medium config (length image)
         → s ≡ label_setting medium image
-    unfolding label_setting part
-    label_zeros t config c s e = e ∙ ap (λ (l : List ℕ). setting_of medium l (length image)) c ∙ sym (pick-not-false _ _ _ (ap not (sym is) ∙ t))
+    unfolding label_setting
+    label_zeros t config c s e =
+        e ∙ ap (λ (l : List ℕ). setting_of medium l (length image)) c ∙ sym (pick_true _ _ _ (zeros true (not-false _ (sym is ∙ t))))
 
 -- ---- A valid label, and what it holds
-not_valid : (p : Params) → Invalid ≡ Valid p → ⊥
+not_valid : (p : Params) → None ≡ Some p → ⊥
 not_valid p e = let z : ◌≡◌ {A = ℕ} 0 1 = cc in omega arith
 
 module _ (medium : Medium) (image : List ℕ) (setting : Setting) (is : setting ≡ label_setting medium image) where
-  pub label_long : (p : Params) → setting ≡ Valid p → 10 ≤ length image
+  pub label_long : (p : Params) → setting ≡ Some p → 10 ≤ length image
   label_long p e = by (dec_lt (length image) 16)
     where
       by : Dec (length image < 16) → 10 ≤ length image
       by (yes h) = absurd (not_valid p (label_short medium image h ∙ sym is ∙ e))
       by (no n) = omega arith
 
-  pub holds_none : (config : List ℕ) → setting ≡ Invalid → false ≡ label_holds medium image config
+  pub holds_none : (config : List ℕ) → setting ≡ None → false ≡ label_holds medium image config
   unfolding label_holds is_valid
   holds_none config e = rw (← is, e)
 
-  pub holds_same : (p : Params) (config : List ℕ) → setting ≡ Valid p → same_bytes (label_config image) config ≡ label_holds medium image config
+  pub holds_same : (p : Params) (config : List ℕ) → setting ≡ Some p → same_bytes (label_config image) config ≡ label_holds medium image config
   unfolding label_holds is_valid
   holds_same p config e = rw (← is, e)
 
-  -- as the code compares: ten bytes with ten
-  pub holds_ten : (p : Params) (config : List ℕ) → length config ≡ 10 → setting ≡ Valid p → (same : Bool)
-      → same ≡ same_bytes (take 10 (drop 0 image)) (take 10 (drop 0 config)) → same ≡ label_holds medium image config
-  unfolding part
-  holds_ten p config ten e same compared = compared ∙ ap (same_bytes (take 10 image)) (take_all 10 config (omega arith)) ∙ holds_same p config e
+  -- as the code compares
+  pub holds_ten : (p : Params) (config : List ℕ) → setting ≡ Some p → (same : Bool) → (held : List ℕ) → held ≡ label_config image
+      → same ≡ pointwise eqb held config → same ≡ label_holds medium image config
+  holds_ten p config e same held h compared =
+      compared ∙ same_pointwise held config ∙ ap (λ (l : List ℕ). same_bytes l config) h ∙ holds_same p config e
 
-pub holds_own : (medium : Medium) (image config : List ℕ) (p : Params) → label_setting medium image ≡ Valid p → label_config image ≡ config
+pub holds_own : (medium : Medium) (image config : List ℕ) (p : Params) → label_setting medium image ≡ Some p → label_config image ≡ config
     → label_holds medium image config ≡ true
 holds_own medium image config p valid is =
     sym (holds_same medium image (label_setting medium image) refl p config valid) ∙ ap (λ (l : List ℕ). same_bytes l config) is ∙ same_self config
@@ -90,7 +99,7 @@ unfolding part
 ten_of config ten = take_all 10 config (omega arith)
 
 module _ (medium : Medium) (config image : List ℕ) (p : Params) (is : part 0 16 image ≡ config ++ label_rest)
-    (valid : setting_of medium config (length image) ≡ Valid p) where
+    (valid : setting_of medium config (length image) ≡ Some p) where
   ten : length config ≡ 10
   ten = setting_ten medium config (length image) p valid
 
@@ -100,7 +109,7 @@ module _ (medium : Medium) (config image : List ℕ) (p : Params) (is : part 0 1
   behind : part 10 6 image ≡ label_rest
   behind = sym (part_part 0 16 10 6 image (omega arith)) ∙ ap (part 10 6) is ∙ part_right 0 6 10 config label_rest ten ∙ rest_of
 
-  pub label_made : (label_config image ≡ config) × (label_setting medium image ≡ Valid p)
+  pub label_made : (label_config image ≡ config) × (label_setting medium image ≡ Some p)
   unfolding label_setting
   label_made = (
     front,

@@ -16,11 +16,16 @@ use Rattle.geometry.specs.declared.medium.Medium.TheVariants.{HardDisk, Floppy}
 use Rattle.geometry.specs.declared.medium.Range.{Range}
 use Rattle.geometry.specs.declared.medium.Ranges.{Ranges}
 use Rattle.geometry.specs.declared.config.Size.{Size}
-use Rattle.geometry.specs.declared.config.Setting.{Setting}
-use Rattle.geometry.specs.declared.config.Setting.TheVariants.{Valid, Invalid}
+use Rattle.std.specs.Prelude.{Some, None, is_some}
 use Rattle.geometry.specs.Params.{Within, image_length}
 use Rattle.geometry.specs.Medium.{is_in, ranges_of}
-use Rattle.geometry.specs.Config.{sizes, size_for, params_of, fitted_to, fields_in, setting_by, setting_of}
+use Rattle.geometry.specs.Config.{Setting, is_valid, sizes, size_for, params_of, fitted_to, fields_in, setting_by, setting_of}
+
+-- ---- whether there are parameters, as Option asks
+pub valid_some : (setting : Setting) → is_some setting ≡ is_valid setting
+unfolding is_valid
+valid_some None = refl
+valid_some (Some p) = refl
 
 -- ---- the rows of the sizes
 row_same : (d₁ d₂ : Size) (k : ℕ) → k < 3 → get_or sizes k d₁ ≡ get_or sizes k d₂
@@ -28,10 +33,6 @@ row_same d₁ d₂ zero h = refl
 row_same d₁ d₂ (suc zero) h = refl
 row_same d₁ d₂ (suc (suc zero)) h = refl
 row_same d₁ d₂ (suc (suc (suc k))) h = absurd (omega arith)
-
-pub size_row : (byte : ℕ) (d : Size) → byte < 3 → get_or sizes byte d ≡ size_for byte
-unfolding size_for
-size_row byte d h = row_same d _ byte h
 
 pub record Sized (s : Size) : Type 0 where
   pub sectors_some : 2 ≤ s.sectors
@@ -118,7 +119,7 @@ module _ (medium : Medium) (cylinders heads step size burst : ℕ) (ranges : Ran
   pub fields_fit : not fit ≡ false → fields_in (ranges_of medium) cylinders heads step size burst ≡ true
   fields_fit e = rw (← is) (test_on fit _ fits-is e)
 
-  pub unfit_invalid : (image : ℕ) → not fit ≡ true → Invalid ≡ setting_by medium cylinders heads step size burst image
+  pub unfit_invalid : (image : ℕ) → not fit ≡ true → None ≡ setting_by medium cylinders heads step size burst image
   unfolding setting_by
   unfit_invalid image e = sym (pick-false _ _ _ (rw (← is) (test_off fit _ fits-is e)))
 
@@ -135,28 +136,28 @@ setting_of_ten medium config image ten cylinders ec r er =
     er ∙ ap (λ (n : ℕ). setting_by medium n (byte config 2) (byte config 3) (byte config 4) (byte config 9) image) ec ∙ sym (pick_true _ _ _ (eq-eqb _ _ ten))
 
 -- ---- what a valid setting says
-pick_valid : (b : Bool) (s : Setting) (p : Params) → pick b s Invalid ≡ Valid p → (b ≡ true) × (s ≡ Valid p)
+pick_valid : (b : Bool) (s : Setting) (p : Params) → pick b s None ≡ Some p → (b ≡ true) × (s ≡ Some p)
 unfolding pick
 pick_valid true s p e = (refl, e)
 pick_valid false s p e = absurd (let z : ◌≡◌ {A = ℕ} 0 1 = cc in omega arith)
 
-valid_same : (p q : Params) → Valid p ≡ Valid q → p ≡ q
+valid_same : (p q : Params) → Some p ≡ Some q → p ≡ q
 valid_same p q e = cc
 
-fitted_valid : (q : Params) (image : ℕ) (p : Params) → fitted_to q image ≡ Valid p → (q ≡ p) × (image_length q ≤ image)
+fitted_valid : (q : Params) (image : ℕ) (p : Params) → fitted_to q image ≡ Some p → (q ≡ p) × (image_length q ≤ image)
 unfolding fitted_to
 fitted_valid q image p e =
     let v = pick_valid _ _ p e in
     (valid_same q p v.1, leb-true _ _ v.0)
 
-by_some : (medium : Medium) (cylinders heads step size burst image : ℕ) (p : Params) → setting_by medium cylinders heads step size burst image ≡ Valid p
+by_some : (medium : Medium) (cylinders heads step size burst image : ℕ) (p : Params) → setting_by medium cylinders heads step size burst image ≡ Some p
     → 128 ≤ p.size
 unfolding setting_by
 by_some medium cylinders heads step size burst image p e =
     let f = fitted_valid _ image p (pick_valid _ _ p e).1 in
     subst (λ (q : Params). 128 ≤ q.size) f.0 (size_sized size).bytes_some
 
-by_within : (medium : Medium) (cylinders heads step size burst image : ℕ) (p : Params) → setting_by medium cylinders heads step size burst image ≡ Valid p
+by_within : (medium : Medium) (cylinders heads step size burst image : ℕ) (p : Params) → setting_by medium cylinders heads step size burst image ≡ Some p
     → Within p × (image_length p ≤ image)
 unfolding setting_by
 by_within medium cylinders heads step size burst image p e =
@@ -165,15 +166,15 @@ by_within medium cylinders heads step size burst image p e =
     let w = size_within medium cylinders heads step size burst v.0 (size_for size) refl in
     subst (λ (q : Params). Within q × (image_length q ≤ image)) f.0 (w, f.1)
 
-pub setting_within : (medium : Medium) (config : List ℕ) (image : ℕ) (p : Params) → setting_of medium config image ≡ Valid p
+pub setting_within : (medium : Medium) (config : List ℕ) (image : ℕ) (p : Params) → setting_of medium config image ≡ Some p
     → Within p × (image_length p ≤ image)
 unfolding setting_of
 setting_within medium c image p e = by_within medium _ _ _ _ _ image p (pick_valid _ _ p e).1
 
-pub setting_some : (medium : Medium) (config : List ℕ) (image : ℕ) (p : Params) → setting_of medium config image ≡ Valid p → 128 ≤ p.size
+pub setting_some : (medium : Medium) (config : List ℕ) (image : ℕ) (p : Params) → setting_of medium config image ≡ Some p → 128 ≤ p.size
 unfolding setting_of
 setting_some medium c image p e = by_some medium _ _ _ _ _ image p (pick_valid _ _ p e).1
 
-pub setting_ten : (medium : Medium) (config : List ℕ) (image : ℕ) (p : Params) → setting_of medium config image ≡ Valid p → length config ≡ 10
+pub setting_ten : (medium : Medium) (config : List ℕ) (image : ℕ) (p : Params) → setting_of medium config image ≡ Some p → length config ≡ 10
 unfolding setting_of
 setting_ten medium c image p e = eqb-true _ _ (pick_valid _ _ p e).0

@@ -1,12 +1,11 @@
 -- Bounds on what the parameters give.
-use mathlib.Core.Path.{◌≡◌}
-use Prim.Native.Nat.{◌+◌, ◌-◌, ◌*◌, ◌/◌, ◌≤◌, ◌<◌}
-use native.Mathlib.Nat.{mul-le-mul, div-lt_iff_lt-mul}
+use Prim.Native.Nat.{◌+◌, ◌*◌, ◌≤◌, ◌<◌}
+use native.Mathlib.Nat.{mul-le-mul}
 use native.Mathlib.Omega.{arith}
 use Rattle.base.proofs.Parts.{cell_in}
 use Rattle.geometry.specs.declared.params.Params.{Params}
 use Rattle.geometry.specs.declared.params.Track.{Track}
-use Rattle.geometry.specs.Params.{Within, track_count, track_size, next_track}
+use Rattle.geometry.specs.Params.{Within, track_count, track_size}
 
 module _ (p : Params) (w : Within p) where
   pub count_most : track_count p ≤ 7168
@@ -29,13 +28,3 @@ module _ (p : Params) (w : Within p) where
 
   pub start_room : (t : Track) → t.0 < track_count p → t.0 * track_size p + track_size p ≤ track_count p * track_size p
   start_room t h = cell_in (track_size p) t.0 (track_count p) h
-
-  pub cylinder_below : (t : Track) → t.0 < track_count p → t.0 / p.heads < p.cylinders
-  cylinder_below t h = (div-lt_iff_lt-mul w.heads_some).1 h
-
--- the track after one of the drive has a number, and fewer are left from there
-pub next_in : (p : Params) (t : Track) → Within p → t.0 < track_count p → t.0 < 4294967295
-next_in p t w h = omega (arith, count_most p w)
-
-pub next_less : (p : Params) (t u : Track) → t.0 < track_count p → u ≡ next_track t → track_count p - u.0 < track_count p - t.0
-next_less p t u h e = rw e (omega arith)

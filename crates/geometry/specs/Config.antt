@@ -7,11 +7,14 @@ use Rattle.base.specs.Same.{same_bytes}
 use Rattle.geometry.specs.declared.params.Params.{Params}
 use Rattle.geometry.specs.declared.medium.Medium.{Medium}
 use Rattle.geometry.specs.declared.medium.Ranges.{Ranges}
-use Rattle.geometry.specs.declared.config.Setting.{Setting}
-use Rattle.geometry.specs.declared.config.Setting.TheVariants.{Valid, Invalid}
+use Rattle.std.specs.Prelude.{Option, Some, None}
 use Rattle.geometry.specs.declared.config.Size.{Size}
 use Rattle.geometry.specs.Params.{image_length}
 use Rattle.geometry.specs.Medium.{is_floppy, is_in, ranges_of}
+
+-- What a configuration gives with an image of some length: parameters, if it is valid.
+abbrev pub Setting : Type 0
+Setting = Option Params
 
 -- Byte 4: 0 for D = 128 data bytes and n = 16 sectors a track, 1 for D = 256 and n = 32, 2 for D = 512 and n = 17.
 abbrev pub sizes : List Size
@@ -25,7 +28,7 @@ params_of cylinders heads s = record { cylinders = cylinders; heads = heads; sec
 
 -- The image must have at least the length that the parameters give.
 unfoldable pub fitted_to : Params → (image : ℕ) → Setting
-fitted_to p image = pick (leb (image_length p) image) (Valid p) Invalid
+fitted_to p image = pick (leb (image_length p) image) (Some p) None
 
 -- Each field is in its range: byte 3 by its two nibbles.
 unfoldable pub fields_in : Ranges → (cylinders heads step size burst : ℕ) → Bool
@@ -37,18 +40,18 @@ unfoldable pub setting_by : Medium → (cylinders heads step size burst image : 
 setting_by medium cylinders heads step size burst image =
     pick (fields_in (ranges_of medium) cylinders heads step size burst)
     (fitted_to (params_of cylinders heads (size_for size)) image)
-    Invalid
+    None
 
 -- What ten configuration bytes give with an image of this length: cylinders high byte first.
 unfoldable pub setting_of : Medium → (config : List ℕ) → (image : ℕ) → Setting
 setting_of medium c image =
     pick (eqb (length c) 10)
     (setting_by medium (byte c 0 * 256 + byte c 1) (byte c 2) (byte c 3) (byte c 4) (byte c 9) image)
-    Invalid
+    None
 
 unfoldable pub is_valid : Setting → Bool
-is_valid Invalid = false
-is_valid (Valid p) = true
+is_valid None = false
+is_valid (Some p) = true
 
 -- Bytes 0-15 of the image are the label: ten configuration bytes, then six zeros.
 abbrev pub label_config : (image : List ℕ) → List ℕ
@@ -59,7 +62,7 @@ label_rest = 0 ∷ 0 ∷ 0 ∷ 0 ∷ 0 ∷ 0 ∷ []
 
 unfoldable pub label_setting : Medium → (image : List ℕ) → Setting
 label_setting medium image =
-    pick (same_bytes (part 10 6 image) label_rest) (setting_of medium (label_config image) (length image)) Invalid
+    pick (same_bytes (part 10 6 image) label_rest) (setting_of medium (label_config image) (length image)) None
 
 -- These ten bytes are a valid label's: the six zeros and the image's length count too.
 unfoldable pub label_holds : Medium → (image config : List ℕ) → Bool

@@ -4,16 +4,8 @@ ghost use Rattle.base.specs.Part.{part};
 ghost use Rattle.geometry.specs.Params.{Within};
 ghost use Rattle.geometry.specs.Config.{size_for, params_of, fitted_to, fields_in, setting_by, setting_of, label_setting, label_holds};
 
-use crate::medium::{Medium, Ranges, is_in, ranges_of};
+use crate::medium::{Medium, Ranges, ranges_of};
 use crate::params::Params;
-use base::bytes::{copy_bytes, same_bytes, two_bytes};
-
-// What a configuration gives with an image of some length.
-#[derive(Clone, Copy)]
-pub enum Setting {
-    Valid(Params),
-    Invalid,
-}
 
 // Data bytes a sector and sectors a track.
 #[derive(Clone, Copy)]
@@ -38,11 +30,12 @@ static SIZES: [Size; 3] = [
     },
 ];
 
+#[tactic(auto, unfolding(crate::specs::Config::size_for))]
 fn size_for(byte: u8) -> Size
     requires { byte ≤ 2 }
     ensures { result ≡ size_for byte }
 {
-    SIZES[byte as usize]
+    SIZES[usize::from(byte)]
 }
 
 // Parameters of a size.
@@ -50,44 +43,36 @@ fn sized(cylinders: u32, heads: u8, s: Size) -> Params
     ensures { result ≡ params_of cylinders heads s }
 {
     Params {
-        cylinders: cylinders,
-        heads: heads as u32,
+        cylinders,
+        heads: u32::from(heads),
         sectors: s.sectors,
         size: s.bytes,
     }
 }
 
 // The parameters, if the image is long enough for them.
-fn fitted(p: Params, image: usize) -> Setting
+#[tactic(auto, using(base::proofs::Decide::decide), unfolding(crate::specs::Config::fitted_to))]
+fn fitted(p: Params, image: usize) -> Option<Params>
     requires { Within p }
     ensures { result ≡ fitted_to p image }
 {
     if image < p.image_length() {
-        return Setting::Invalid;
+        return None;
     }
-    Setting::Valid(p)
+    Some(p)
 }
 
 // Whether the fields of a configuration are in their ranges.
+#[tactic(auto, unfolding(crate::specs::Config::fields_in))]
 fn fields_in(ranges: Ranges, cylinders: u32, heads: u8, step: u8, size: u8, burst: u8) -> bool
     ensures { result ≡ fields_in ranges cylinders heads step size burst }
 {
-    if !is_in(ranges.cylinders, cylinders) {
-        return false;
-    }
-    if !is_in(ranges.heads, heads as u32) {
-        return false;
-    }
-    if !is_in(ranges.step, (step / 16) as u32) {
-        return false;
-    }
-    if !is_in(ranges.nibble, (step % 16) as u32) {
-        return false;
-    }
-    if !is_in(ranges.size, size as u32) {
-        return false;
-    }
-    is_in(ranges.burst, burst as u32)
+    ranges.cylinders.contains(cylinders)
+        && ranges.heads.contains(u32::from(heads))
+        && ranges.step.contains(u32::from(step / 16))
+        && ranges.nibble.contains(u32::from(step % 16))
+        && ranges.size.contains(u32::from(size))
+        && ranges.burst.contains(u32::from(burst))
 }
 
 // The decision on a configuration's fields.
@@ -99,22 +84,22 @@ fn setting_by(
     size: u8,
     burst: u8,
     image: usize,
-) -> Setting
+) -> Option<Params>
     ensures { result ≡ setting_by medium cylinders heads step size burst image }
 {
     if !fields_in(ranges_of(medium), cylinders, heads, step, size, burst) {
-        return Setting::Invalid;
+        return None;
     }
     fitted(sized(cylinders, heads, size_for(size)), image)
 }
 
 // The parameters of a configuration, if it is valid on this medium with an image of this length.
-pub fn setting_of(medium: Medium, config: [u8; 10], image: usize) -> Setting
+pub fn setting_of(medium: Medium, config: [u8; 10], image: usize) -> Option<Params>
     ensures { result ≡ setting_of medium config image }
 {
     setting_by(
         medium,
-        two_bytes(config[0], config[1]) as u32,
+        u32::from(u16::from_be_bytes([config[0], config[1]])),
         config[2],
         config[3],
         config[4],
@@ -124,24 +109,25 @@ pub fn setting_of(medium: Medium, config: [u8; 10], image: usize) -> Setting
 }
 
 // The ten configuration bytes at the front of a label, or of data given.
+#[tactic(auto, unfolding(base::specs::Part::part))]
 pub fn config_in(bytes: &[u8]) -> [u8; 10]
     requires { 10 ≤ length bytes.now }
     ensures { result ≡ part 0 10 bytes.now }
 {
     let mut config = [0u8; 10];
-    copy_bytes(&mut config, &bytes[0..10]);
+    config.copy_from_slice(&bytes[..10]);
     config
 }
 
 // The parameters of an image's label, if it is valid. An image under 16 bytes has none.
-pub fn label_setting(medium: Medium, image: &[u8]) -> Setting
+pub fn label_setting(medium: Medium, image: &[u8]) -> Option<Params>
     ensures { result ≡ label_setting medium image.now }
 {
     if image.len() < 16 {
-        return Setting::Invalid;
+        return None;
     }
-    if !same_bytes(&image[10..16], &[0u8; 6]) {
-        return Setting::Invalid;
+    if image[10..16] != [0; 6] {
+        return None;
     }
     setting_of(medium, config_in(image), image.len())
 }
@@ -152,7 +138,7 @@ pub fn label_holds(medium: Medium, image: &[u8], config: [u8; 10]) -> bool
 {
     let setting = label_setting(medium, image);
     match setting {
-        Setting::Invalid => false,
-        Setting::Valid(_) => same_bytes(&image[0..10], &config[0..10]),
+        None => false,
+        Some(_) => config_in(image) == config,
     }
 }

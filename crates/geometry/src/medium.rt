@@ -1,18 +1,27 @@
 // The kinds of drive, by their numbers, and what a configuration's bytes may be on each.
 ghost use Rattle.std.specs.Prelude.{◌≡◌};
-ghost use Rattle.geometry.specs.Medium.{medium_of, is_floppy, is_in, ranges_of};
+ghost use Rattle.geometry.specs.Medium.{medium_of, is_in, ranges_of};
 
-#[derive(Clone, Copy)]
+#[derive(Clone, Copy, PartialEq, Eq)]
 pub enum Medium {
     HardDisk,
     Floppy,
 }
 
-// From the least to the most.
+// From the least to the most. Of std's `RangeInclusive` the definitions would have to name a third field, that it is not exhausted.
 #[derive(Clone, Copy)]
 pub struct Range {
     pub least: u32,
     pub most: u32,
+}
+
+impl Range {
+    #[tactic(auto, unfolding(crate::specs::Medium::is_in))]
+    pub fn contains(self, value: u32) -> bool
+        ensures { result ≡ is_in self value }
+    {
+        self.least <= value && value <= self.most
+    }
 }
 
 // What the fields of a configuration may be.
@@ -59,24 +68,19 @@ const FLOPPY: Ranges = Ranges {
     },
 };
 
+// By a drive's number, which alone is no medium, so that a `From` would say too little.
+#[tactic(auto, using(base::proofs::Decide::decide), unfolding(crate::specs::Medium::medium_of))]
 pub fn medium_of(drive: u8) -> Medium
     ensures { result ≡ medium_of drive }
 {
     if drive < 2 {
-        return Medium::HardDisk;
-    }
-    Medium::Floppy
-}
-
-pub fn is_floppy(medium: Medium) -> bool
-    ensures { result ≡ is_floppy medium }
-{
-    match medium {
-        Medium::HardDisk => false,
-        Medium::Floppy => true,
+        Medium::HardDisk
+    } else {
+        Medium::Floppy
     }
 }
 
+#[tactic(auto, unfolding(crate::specs::Medium::ranges_of))]
 pub fn ranges_of(medium: Medium) -> Ranges
     ensures { result ≡ ranges_of medium }
 {
@@ -84,13 +88,4 @@ pub fn ranges_of(medium: Medium) -> Ranges
         Medium::HardDisk => HARD_DISK,
         Medium::Floppy => FLOPPY,
     }
-}
-
-pub fn is_in(range: Range, value: u32) -> bool
-    ensures { result ≡ is_in range value }
-{
-    if value < range.least {
-        return false;
-    }
-    value <= range.most
 }

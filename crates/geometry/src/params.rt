@@ -1,29 +1,27 @@
 // Addresses and tracks, and what a drive's parameters say of them.
-ghost use Rattle.std.specs.Prelude.{◌≡◌, ◌+◌, ◌*◌, ◌/◌, ◌%◌, ◌≤◌, ◌<◌, ltb, eqb};
-ghost use Rattle.geometry.specs.Params.{Within, track_count, last_address, slot_size, track_size, image_length, track_start, track_of, sector_of, cylinder_of, head_of, lba_of, further, track, next_track};
+ghost use Rattle.std.specs.Prelude.{◌≡◌, ◌+◌, ◌*◌, ◌/◌, ◌%◌, ◌≤◌, ◌<◌, ltb, [], ◌∷◌};
+ghost use Rattle.base.specs.Byte.{byte};
+ghost use Rattle.geometry.specs.Params.{Within, track_count, last_address, slot_size, track_size, image_length, track_start, track_of, sector_of, cylinder_of, head_of, lba_of, further, track};
 
 // A logical address.
-#[derive(Clone, Copy)]
+#[derive(Clone, Copy, PartialEq, Eq, PartialOrd, Ord)]
 pub struct Lba(pub u32);
 
 // A track's number.
-#[derive(Clone, Copy)]
+#[derive(Clone, Copy, PartialEq, Eq, PartialOrd, Ord)]
 pub struct Track(pub u32);
 
+// Three bytes, high byte first.
+impl From<[u8; 3]> for Lba {
+    ghost from_gives = { λ bytes a. a ≡ lba_of (byte bytes 0) (byte bytes 1) (byte bytes 2) };
+
+    fn from(bytes: [u8; 3]) -> Lba {
+        let [high, middle, low] = bytes;
+        Lba(u32::from_be_bytes([0, high, middle, low]))
+    }
+}
+
 impl Lba {
-    // From three bytes, high byte first.
-    pub fn of_bytes(high: u8, middle: u8, low: u8) -> Lba
-        ensures { result ≡ lba_of high middle low }
-    {
-        Lba((high as u32) * 65536 + (middle as u32) * 256 + (low as u32))
-    }
-
-    pub fn zero() -> Lba
-        ensures { result.0 ≡ 0 }
-    {
-        Lba(0)
-    }
-
     // The address n further on.
     pub fn further(self, n: usize) -> Lba
         requires { self.0 + n < 4294967296 }
@@ -32,42 +30,25 @@ impl Lba {
         Lba(self.0 + n as u32)
     }
 
-    // Whether this address is past another.
-    pub fn is_past(self, last: Lba) -> bool
-        ensures { result ≡ ltb last.0 self.0 }
+    // The three low bytes, high byte first.
+    pub fn to_be_bytes(self) -> [u8; 3]
+        ensures { result ≡ self.0 / 65536 % 256 ∷ self.0 / 256 % 256 ∷ self.0 % 256 ∷ [] }
     {
-        last.0 < self.0
+        let [_, high, middle, low] = self.0.to_be_bytes();
+        [high, middle, low]
     }
+}
 
-    // The three bytes, high byte first.
-    pub fn high(self) -> u8
-        requires { self.0 < 16777216 }
-        ensures { result ≡ self.0 / 65536 }
-    {
-        (self.0 / 65536) as u8
-    }
+// Two bytes, high byte first.
+impl From<[u8; 2]> for Track {
+    ghost from_gives = { λ bytes t. t ≡ track (byte bytes 0 * 256 + byte bytes 1) };
 
-    pub fn middle(self) -> u8
-        ensures { result ≡ self.0 / 256 % 256 }
-    {
-        (self.0 / 256 % 256) as u8
-    }
-
-    pub fn low(self) -> u8
-        ensures { result ≡ self.0 % 256 }
-    {
-        (self.0 % 256) as u8
+    fn from(bytes: [u8; 2]) -> Track {
+        Track(u32::from(u16::from_be_bytes(bytes)))
     }
 }
 
 impl Track {
-    // From two bytes, high byte first.
-    pub fn of_bytes(high: u8, low: u8) -> Track
-        ensures { result ≡ track (high * 256 + low) }
-    {
-        Track((high as u32) * 256 + (low as u32))
-    }
-
     // Track 0: the drive's first, and what an ID names where there is no partner.
     pub fn first() -> Track
         ensures { result ≡ track 0 }
@@ -75,43 +56,18 @@ impl Track {
         Track(0)
     }
 
-    pub fn next(self) -> Track
-        requires { self.0 < 4294967295 }
-        ensures { result ≡ next_track self }
+    pub fn numbered(k: u32) -> Track
+        ensures { result ≡ track k }
     {
-        Track(self.0 + 1)
+        Track(k)
     }
 
-    pub fn is_before(self, other: Track) -> bool
-        ensures { result ≡ ltb self.0 other.0 }
+    // The two low bytes, high byte first.
+    pub fn to_be_bytes(self) -> [u8; 2]
+        ensures { result ≡ self.0 / 256 % 256 ∷ self.0 % 256 ∷ [] }
     {
-        self.0 < other.0
-    }
-
-    pub fn is_same(self, other: Track) -> bool
-        ensures { result ≡ eqb self.0 other.0 }
-    {
-        self.0 == other.0
-    }
-
-    pub fn is_first(self) -> bool
-        ensures { result ≡ eqb self.0 0 }
-    {
-        self.0 == 0
-    }
-
-    // The two bytes, high byte first.
-    pub fn high(self) -> u8
-        requires { self.0 < 65536 }
-        ensures { result ≡ self.0 / 256 }
-    {
-        (self.0 / 256) as u8
-    }
-
-    pub fn low(self) -> u8
-        ensures { result ≡ self.0 % 256 }
-    {
-        (self.0 % 256) as u8
+        let [_, _, high, low] = self.0.to_be_bytes();
+        [high, low]
     }
 }
 
@@ -209,7 +165,7 @@ impl Params {
         let size = self.track_size();
         let start = 16 + (t.0 as usize) * size;
         Stretch {
-            start: start,
+            start,
             end: start + size,
         }
     }

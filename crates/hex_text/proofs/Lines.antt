@@ -1,8 +1,7 @@
 -- A line read one character at a time is what its text decodes to.
 use Prim.Native.Nat.{ℕ, ◌+◌, ◌-◌, ◌*◌, ◌≤◌, ◌<◌}
 use mathlib.Core.Path.{◌≡◌, refl, sym, ap, ◌∙◌}
-use mathlib.Core.Bool.{true, false, or-true}
-use mathlib.Core.Logic.{◌⊎◌, inl, inr}
+use mathlib.Core.Bool.{true, false}
 use mathlib.Core.Option.{Option, none, some}
 use mathlib.Core.List.{List, [], ◌∷◌, ◌++◌, append-nil}
 use native.Mathlib.Omega.{arith}
@@ -11,32 +10,33 @@ use native.Mathlib.Nat.{sub-zero}
 use native.Mathlib.Numerals.{add-one}
 use lib.ListN.{length, take, set, length-set}
 use lib.Seq.{take-suc-set, append_snoc}
-use borrow.Author.Tests.{le-leb, lt-leb, eq-eqb, ne_eqb}
+use borrow.Author.Tests.{le-leb, lt-leb}
+use Rattle.std.specs.Prelude.{Some, None}
+use Rattle.std.specs.Prelude as std
 use Rattle.base.specs.Pick.{pick}
 use Rattle.hex_text.specs.declared.line.Line.{Line}
-use Rattle.hex_text.specs.Hex.{value_of, before, decoded}
+use Rattle.hex_text.specs.Hex.{value_of, before, digits_before, decoded}
 use Rattle.hex_text.specs.Line.{Reading, line_now, started, spoilt_line, accepted, accepted_all, whole_of, within, line_of}
-use Rattle.hex_text.proofs.Digits.{value_small}
 use Rattle.hex_text.proofs.Characters.{taken_first, taken_full, taken_byte, accepted_bad, accepted_none, accepted_digit}
 
 -- whole bytes so far, and a first digit behind them
 abbrev ready : ℕ → Line
-ready k = record { count = k; half = false; high = 0; bad = false }
+ready k = record { count = k; high = None; bad = false }
 
 abbrev waiting : ℕ → ℕ → Line
-waiting k v = record { count = k; half = true; high = v; bad = false }
+waiting k v = record { count = k; high = Some v; bad = false }
 
 -- ---- one character from each of the two
 module _ (k : ℕ) (bytes : List ℕ) where
-  ready_digit : (c : ℕ) → value_of c < 16 → accepted (line_now (ready k) bytes) c ≡ line_now (waiting k (value_of c)) bytes
-  ready_digit c h = accepted_digit (ready k) bytes c refl h ∙ taken_first (ready k) bytes (value_of c) refl
+  ready_digit : (c v : ℕ) → value_of c ≡ Some v → accepted (line_now (ready k) bytes) c ≡ line_now (waiting k v) bytes
+  ready_digit c v h = sym (taken_first (ready k) bytes v refl ∙ accepted_digit (ready k) bytes c refl v h)
 
-  waiting_byte : (v d : ℕ) → value_of d < 16 → k < length bytes
-      → accepted (line_now (waiting k v) bytes) d ≡ line_now (ready (k + 1)) (set bytes k (v * 16 + value_of d))
-  waiting_byte v d h l = accepted_digit (waiting k v) bytes d refl h ∙ taken_byte (waiting k v) bytes (value_of d) refl l
+  module _ (high d v : ℕ) (h : value_of d ≡ Some v) where
+    waiting_byte : k < length bytes → accepted (line_now (waiting k high) bytes) d ≡ line_now (ready (k + 1)) (set bytes k (high * 16 + v))
+    waiting_byte l = sym (taken_byte (waiting k high) bytes v high refl l ∙ accepted_digit (waiting k high) bytes d refl v h)
 
-  waiting_full : (v d : ℕ) → value_of d < 16 → length bytes ≤ k → accepted (line_now (waiting k v) bytes) d ≡ line_now (spoilt_line (waiting k v)) bytes
-  waiting_full v d h l = accepted_digit (waiting k v) bytes d refl h ∙ taken_full (waiting k v) bytes (value_of d) refl l
+    waiting_full : length bytes ≤ k → accepted (line_now (waiting k high) bytes) d ≡ line_now (spoilt_line (waiting k high)) bytes
+    waiting_full l = sym (taken_full (waiting k high) bytes v high refl l ∙ accepted_digit (waiting k high) bytes d refl v h)
 
 -- ---- reading on from a state
 read_on : (x y : Reading) (c : ℕ) (text : List ℕ) → accepted x c ≡ y → whole_of (accepted_all x (c ∷ text)) ≡ whole_of (accepted_all y text)
@@ -46,27 +46,30 @@ read_on x y c text e = ap (λ (z : Reading). whole_of (accepted_all z text)) e
 bad_stays : (line : Line) (bytes text : List ℕ) → line.bad ≡ true → whole_of (accepted_all (line_now line bytes) text) ≡ none
 unfolding accepted_all whole_of pick
 bad_stays line bytes [] e = rw e
-bad_stays line bytes (c ∷ text) e = read_on _ _ c text (accepted_bad line bytes c e) ∙ bad_stays line bytes text e
+bad_stays line bytes (c ∷ text) e = read_on _ _ c text (sym (accepted_bad line bytes c e)) ∙ bad_stays line bytes text e
 
 spoilt_stays : (line : Line) (bytes text : List ℕ) → whole_of (accepted_all (line_now (spoilt_line line) bytes) text) ≡ none
 unfolding spoilt_line
 spoilt_stays line bytes text = bad_stays (spoilt_line line) bytes text refl
 
-no_digit : (line : Line) (bytes : List ℕ) (c : ℕ) (text : List ℕ) → line.bad ≡ false → value_of c ≡ 16
+no_digit : (line : Line) (bytes : List ℕ) (c : ℕ) (text : List ℕ) → line.bad ≡ false → value_of c ≡ None
     → whole_of (accepted_all (line_now line bytes) (c ∷ text)) ≡ none
-no_digit line bytes c text e h = read_on _ _ c text (accepted_none line bytes c e h) ∙ spoilt_stays line bytes text
+no_digit line bytes c text e h = read_on _ _ c text (sym (accepted_none line bytes c e h)) ∙ spoilt_stays line bytes text
 
 -- ---- what is decoded
 -- two characters that are digits, and then the rest
-two_digits : (c d : ℕ) (text : List ℕ) → value_of c < 16 → value_of d < 16
-    → decoded (c ∷ d ∷ text) ≡ before (value_of c * 16 + value_of d) (decoded text)
-unfolding decoded pick
-two_digits c d text h k = rw (ne_eqb (value_of c) 16 (λ e. omega arith), ne_eqb (value_of d) 16 (λ e. omega arith))
+two_digits : (c d : ℕ) (text : List ℕ) (high low : ℕ) → value_of c ≡ Some high → value_of d ≡ Some low
+    → decoded (c ∷ d ∷ text) ≡ before (high * 16 + low) (decoded text)
+unfolding decoded digits_before
+two_digits c d text high low h k = rw (h, k)
 
-pair_none : (c d : ℕ) (text : List ℕ) → (value_of c ≡ 16) ⊎ (value_of d ≡ 16) → decoded (c ∷ d ∷ text) ≡ none
-unfolding decoded pick
-pair_none c d text (inl e) = rw (eq-eqb (value_of c) 16 e)
-pair_none c d text (inr e) = rw (eq-eqb (value_of d) 16 e, or-true)
+first_none : (c d : ℕ) (text : List ℕ) → value_of c ≡ None → decoded (c ∷ d ∷ text) ≡ none
+unfolding decoded digits_before
+first_none c d text e = rw e
+
+second_none : (c d : ℕ) (text : List ℕ) (high : ℕ) → value_of c ≡ Some high → value_of d ≡ None → decoded (c ∷ d ∷ text) ≡ none
+unfolding decoded digits_before
+second_none c d text high h e = rw (h, e)
 
 within_fits : (room : ℕ) (bytes : List ℕ) → length bytes ≤ room → within room (some bytes) ≡ some bytes
 unfolding within pick
@@ -122,55 +125,49 @@ module _ (k : ℕ) (bytes : List ℕ) where
   unfolding accepted_all whole_of pick
   half_none v = refl
 
-  read_one : (c : ℕ) → Dec (value_of c < 16) → Read (c ∷ [])
+  read_one : (c : ℕ) (value : std.Option ℕ) → value_of c ≡ value → Read (c ∷ [])
   unfolding decoded
-  read_one c (yes h) = both_none (c ∷ []) (read_on _ _ c [] (ready_digit k bytes c h) ∙ half_none (value_of c)) refl
-  read_one c (no h) = both_none (c ∷ []) (no_digit (ready k) bytes c [] refl (omega (arith, value_small c))) refl
+  read_one c (Some v) e = both_none (c ∷ []) (read_on _ _ c [] (ready_digit k bytes c v e) ∙ half_none v) refl
+  read_one c None e = both_none (c ∷ []) (no_digit (ready k) bytes c [] refl e) refl
 
 -- a byte more
 module _ (k : ℕ) (bytes : List ℕ) (c d : ℕ) (text : List ℕ) where
-  byte : ℕ
-  byte = value_of c * 16 + value_of d
-
   -- the rest stands behind one byte more
-  byte_joined : k < length bytes
+  byte_joined : (byte : ℕ) → k < length bytes
       → joined (take (k + 1) (set bytes k byte)) (within (length (set bytes k byte) - (k + 1)) (decoded text))
       ≡ joined (take k bytes) (within (length bytes - k) (before byte (decoded text)))
-  byte_joined l =
+  byte_joined byte l =
       let n : length bytes - (k + 1) + 1 ≡ length bytes - k = omega arith in
       let m : length (set bytes k byte) - (k + 1) ≡ length bytes - (k + 1) = ap (λ (i : ℕ). i - (k + 1)) (length-set bytes k byte) in
       let t : take (k + 1) (set bytes k byte) ≡ take k bytes ++ (byte ∷ []) = rw add-one (take-suc-set bytes k byte l) in
       rw (t, m) (joined_more (take k bytes) byte (length bytes - (k + 1)) (decoded text) ∙ rw n)
 
-  first : value_of c < 16
-      → whole_of (accepted_all (line_now (ready k) bytes) (c ∷ d ∷ text)) ≡ whole_of (accepted_all (line_now (waiting k (value_of c)) bytes) (d ∷ text))
-  first h = read_on _ _ c (d ∷ text) (ready_digit k bytes c h)
+  first : (high : ℕ) → value_of c ≡ Some high
+      → whole_of (accepted_all (line_now (ready k) bytes) (c ∷ d ∷ text)) ≡ whole_of (accepted_all (line_now (waiting k high) bytes) (d ∷ text))
+  first high h = read_on _ _ c (d ∷ text) (ready_digit k bytes c high h)
 
-  module _ (ih : Read (k + 1) (set bytes k byte) text) where
-    read_two : value_of c < 16 → value_of d < 16 → Dec (k < length bytes) → Read k bytes (c ∷ d ∷ text)
-    unfolding Read byte joined
-    read_two h h' (yes l) =
-        first h ∙ read_on _ _ d text (waiting_byte k bytes (value_of c) d h' l) ∙ ih ∙ rw (two_digits c d text h h') (byte_joined l)
-    read_two h h' (no l) =
+  module _ (ih : (after : List ℕ) → Read (k + 1) after text) where
+    read_two : (high low : ℕ) → value_of c ≡ Some high → value_of d ≡ Some low → Dec (k < length bytes) → Read k bytes (c ∷ d ∷ text)
+    unfolding Read joined
+    read_two high low h h' (yes l) =
+        first high h ∙ read_on _ _ d text (waiting_byte k bytes high d low h' l) ∙ ih (set bytes k (high * 16 + low))
+        ∙ rw (two_digits c d text high low h h') (byte_joined (high * 16 + low) l)
+    read_two high low h h' (no l) =
         let z : length bytes - k ≡ 0 = omega arith in
-        first h ∙ read_on _ _ d text (waiting_full k bytes (value_of c) d h' (omega arith)) ∙ spoilt_stays (waiting k (value_of c)) bytes text
-        ∙ rw (two_digits c d text h h', z, full_none byte (decoded text))
+        first high h ∙ read_on _ _ d text (waiting_full k bytes high d low h' (omega arith)) ∙ spoilt_stays (waiting k high) bytes text
+        ∙ rw (two_digits c d text high low h h', z, full_none (high * 16 + low) (decoded text))
 
     -- two characters, digits or not
-    read_pair : Dec (value_of c < 16) → Dec (value_of d < 16) → Read k bytes (c ∷ d ∷ text)
-    read_pair (yes h) (yes h') = read_two h h' (dec_lt k (length bytes))
-    read_pair (no h) z =
-        let e : value_of c ≡ 16 = omega (arith, value_small c) in
-        both_none k bytes (c ∷ d ∷ text) (no_digit (ready k) bytes c (d ∷ text) refl e) (pair_none c d text (inl e))
-    read_pair (yes h) (no h') =
-        let e : value_of d ≡ 16 = omega (arith, value_small d) in
-        both_none k bytes (c ∷ d ∷ text) (first h ∙ no_digit (waiting k (value_of c)) bytes d text refl e) (pair_none c d text (inr e))
+    read_pair : (high low : std.Option ℕ) → value_of c ≡ high → value_of d ≡ low → Read k bytes (c ∷ d ∷ text)
+    read_pair None low h h' = both_none k bytes (c ∷ d ∷ text) (no_digit (ready k) bytes c (d ∷ text) refl h) (first_none c d text h)
+    read_pair (Some high) None h h' =
+        both_none k bytes (c ∷ d ∷ text) (first high h ∙ no_digit (waiting k high) bytes d text refl h') (second_none c d text high h h')
+    read_pair (Some high) (Some low) h h' = read_two high low h h' (dec_lt k (length bytes))
 
 ready_read : (text : List ℕ) (k : ℕ) (bytes : List ℕ) → Read k bytes text
 ready_read [] k bytes = read_end k bytes
-ready_read (c ∷ []) k bytes = read_one k bytes c (dec_lt (value_of c) 16)
-ready_read (c ∷ d ∷ text) k bytes =
-    read_pair k bytes c d text (ready_read text (k + 1) _) (dec_lt (value_of c) 16) (dec_lt (value_of d) 16)
+ready_read (c ∷ []) k bytes = read_one k bytes c (value_of c) refl
+ready_read (c ∷ d ∷ text) k bytes = read_pair k bytes c d text (λ after. ready_read text (k + 1) after) (value_of c) (value_of d) refl refl
 
 pub line_read : (text bytes : List ℕ) → whole_of (accepted_all (line_now started bytes) text) ≡ line_of (length bytes) text
 unfolding line_of Read

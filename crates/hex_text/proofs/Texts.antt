@@ -29,31 +29,30 @@ put_two to x y ys text h =
     rw n (put_one (to + 1) y ys (set text to x) (omega arith) ∙ put_one to x (y ∷ ys) text (omega arith))
 
 -- ---- the loop: what is left, written from here, makes the whole
-pub record Written (text₀ : List ℕ) (at : ℕ) (bytes text : List ℕ) (i to : ℕ) : Type 0 where
+pub record Written (text₀ : List ℕ) (at : ℕ) (bytes text : List ℕ) (i : ℕ) : Type 0 where
   pub most : i ≤ length bytes
-  pub place : to ≡ at + 2 * i
   pub same : length text ≡ length text₀
-  pub rest : splice to (encoded (drop i bytes)) text ≡ splice at (encoded bytes) text₀
+  pub rest : splice (at + 2 * i) (encoded (drop i bytes)) text ≡ splice at (encoded bytes) text₀
 
 module _ (text₀ : List ℕ) (at : ℕ) (bytes : List ℕ) where
-  pub written_none : Written text₀ at bytes text₀ 0 at
-  written_none = record { most = omega arith; place = omega arith; same = refl; rest = refl }
+  pub written_none : Written text₀ at bytes text₀ 0
+  written_none = let z : at + 2 * 0 ≡ at = omega arith in record { most = omega arith; same = refl; rest = rw z }
 
-  module _ (text : List ℕ) (i to : ℕ) (w : Written text₀ at bytes text i to) where
+  module _ (text : List ℕ) (i : ℕ) (w : Written text₀ at bytes text i) where
     pub written_all : length bytes ≤ i → text ≡ splice at (encoded bytes) text₀
     unfolding encoded
-    written_all h = sym (put_nil to text) ∙ (rw (drop_of_length-le bytes {i = i} h) at w.rest)
+    written_all h = sym (put_nil (at + 2 * i) text) ∙ (rw (drop_of_length-le bytes {i = i} h) at w.rest)
 
     pub written_more : (high low : ℕ) → at + 2 * length bytes ≤ length text₀ → i < length bytes
         → high ≡ digit_for (get_or bytes i 0 / 16) → low ≡ digit_for (get_or bytes i 0 % 16)
-        → Written text₀ at bytes (set (set text to high) (to + 1) low) (i + 1) (to + 2)
+        → Written text₀ at bytes (set (set text (at + 2 * i) high) (at + 2 * i + 1) low) (i + 1)
     unfolding encoded
     written_more high low room h p q =
-        let l : to + 1 < length text = omega (arith, w.place, w.same) in
+        let l : at + 2 * i + 1 < length text = omega (arith, w.same) in
+        let n : at + 2 * (i + 1) ≡ at + 2 * i + 2 = omega arith in
         let next : drop i bytes ≡ get_or bytes i 0 ∷ drop (suc i) bytes = drop-cons bytes i 0 h in
         record {
           most = omega arith;
-          place = omega (arith, w.place);
           same = simp length-set w.same;
-          rest = rw (add-one i) (put_two to high low (encoded (drop (suc i) bytes)) text l ∙ rw (p, q) (rw next at w.rest));
+          rest = rw (n, add-one i) (put_two (at + 2 * i) high low (encoded (drop (suc i) bytes)) text l ∙ rw (p, q) (rw next at w.rest));
         }

@@ -2,38 +2,28 @@
 ghost use Rattle.std.specs.Prelude.{◌≡◌, ◌<◌};
 ghost use Rattle.hex_text.specs.Hex.{value_of, digit_for};
 
-// The value of a digit of either case; 16 for any other character.
-pub fn value_of(c: u8) -> u8
+// The value of a digit of either case; none for any other character.
+#[tactic(auto, using(crate::proofs::Digits::values))]
+pub fn value_of(c: u8) -> Option<u8>
     ensures { result ≡ value_of c }
 {
-    if c < 0x30 {
-        return 16;
+    match c {
+        b'0'..=b'9' => Some(c - b'0'),
+        b'A'..=b'F' => Some(c - b'A' + 10),
+        b'a'..=b'f' => Some(c - b'a' + 10),
+        _ => None,
     }
-    if c <= 0x39 {
-        return c - 0x30;
-    }
-    if c < 0x41 {
-        return 16;
-    }
-    if c <= 0x46 {
-        return c - 0x37;
-    }
-    if c < 0x61 {
-        return 16;
-    }
-    if c <= 0x66 {
-        return c - 0x57;
-    }
-    16
 }
 
-// The upper-case digit of a value.
+// The upper-case digit of a value: std's `from_digit` writes lower case.
+#[tactic(auto, using(crate::proofs::Digits::digits))]
 pub fn digit_for(value: u8) -> u8
     requires { value < 16 }
     ensures { result ≡ digit_for value }
 {
     if value < 10 {
-        return value + 0x30;
+        b'0' + value
+    } else {
+        b'A' + (value - 10)
     }
-    value + 0x37
 }

@@ -3,11 +3,9 @@ ghost use Rattle.std.specs.Prelude.{◌≡◌};
 ghost use Rattle.hex_text.specs.Frame.{is_reset};
 
 // FF alone.
+#[tactic(auto, using(crate::proofs::Frames::reset_pointwise))]
 pub fn is_reset(frame: &[u8]) -> bool
     ensures { result ≡ is_reset frame.now }
 {
-    if frame.len() != 1 {
-        return false;
-    }
-    frame[0] == 0xFF
+    frame[..] == [0xFF]
 }

@@ -86,10 +86,9 @@ look_here m n p zero l e = absurd (not-suc-le-zero l)
 look_here m n p (suc k) l e = simp (eq-eqb _ _ e)
 
 -- and goes on to the next slot where it is not
-pub look_on : (m : List ℕ) (n p q k : ℕ) → 0 < k → q ≡ (p + 1) % n → (get_or m p 0 ≡ n → ⊥) → empty_from m n k p ≡ empty_from m n (k - 1) q
+pub look_on : (m : List ℕ) (n p q k j : ℕ) → k ≡ suc j → q ≡ (p + 1) % n → (get_or m p 0 ≡ n → ⊥) → empty_from m n j q ≡ empty_from m n k p
 unfolding empty_from pick
-look_on m n p q zero l e ne = absurd (not-suc-le-zero l)
-look_on m n p q (suc k) l e ne = simp (ne_eqb _ _ ne, sub-one, e)
+look_on m n p q k j l e ne = rw (l, e, ne_eqb _ _ ne)
 
 pub look_none : (m : List ℕ) (n p k : ℕ) → k ≤ 0 → empty_from m n k p ≡ p
 unfolding empty_from pick

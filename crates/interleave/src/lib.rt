@@ -23,18 +23,17 @@ fn next_empty(map: &[u8], n: usize, from: usize) -> usize
     ensures { (result ≡ empty_from map.now n n from) × (result < n) }
 {
     let mut slot = from;
-    let mut left = n;
-    while 0 < left {
-        if map[slot] as usize == n {
+    for _ in 0..n {
+        if usize::from(map[slot]) == n {
             return slot;
         }
         slot = wrapped(slot, 1, n);
-        left -= 1;
     }
     slot
 }
 
-// The sector in each slot of a track of n, for interleave f. The entries past slot n are not used.
+// The sector in each slot of a track of n, for interleave f. The entries past slot n are not used: the array has 32 for any n, since
+// there is no heap, and n for a slot that is empty, since the contract says what every entry is.
 pub fn layout(n: usize, f: usize) -> [u8; 32]
     requires { (f < n) × (n ≤ 32) }
     ensures { result ≡ layout_of n f ++ replicate (32 - n) n }
@@ -43,11 +42,9 @@ pub fn layout(n: usize, f: usize) -> [u8; 32]
     let mut map = [empty; 32];
     map[0] = 0;
     let mut slot = 0;
-    let mut s = 1;
-    while s < n {
+    for s in 1..n {
         slot = next_empty(&map, n, wrapped(slot, f, n));
         map[slot] = s as u8;
-        s += 1;
     }
     map
 }

@@ -11,7 +11,7 @@ use borrow.Author.Tests.{eq-eqb, eqb-true}
 use Rattle.geometry.specs.declared.params.Params.{Params}
 use Rattle.geometry.specs.declared.params.Track.{Track}
 use Rattle.track.specs.declared.state.State.TheVariants.{Moved, Taken}
-use Rattle.track.specs.declared.find.Where.TheVariants.{On}
+use Rattle.track.specs.Find.{On}
 use Rattle.track.specs.Id.{id_in, id_for}
 use Rattle.track.specs.Image.{Fits, track_bytes, slot_id, slot_data, first_id}
 use Rattle.track.specs.Find.{where_of, holds, slot_used}

@@ -10,7 +10,7 @@ use Rattle.geometry.specs.declared.params.Track.{Track}
 use Rattle.geometry.specs.Params.{track_count}
 use Rattle.track.specs.declared.id.Id.{Id}
 use Rattle.track.specs.declared.state.State.TheVariants.{Sound, Taken}
-use Rattle.track.specs.declared.find.Where.TheVariants.{On}
+use Rattle.track.specs.Find.{On}
 use Rattle.track.specs.Id.{id_in, id_for, own_id}
 use Rattle.track.specs.Image.{Fits, track_bytes, slot_id, first_id}
 use Rattle.track.specs.Find.{where_of}

@@ -8,10 +8,10 @@ use Rattle.geometry.specs.declared.params.Params.{Params}
 use Rattle.geometry.specs.declared.params.Track.{Track}
 use Rattle.geometry.specs.Params.{track_count}
 use Rattle.track.specs.declared.state.State.TheVariants.{Sound, Moved, Taken}
-use Rattle.track.specs.declared.find.Where.{Where}
-use Rattle.track.specs.declared.find.Where.TheVariants.{On, Off}
-use Rattle.track.specs.declared.find.Sector.{Sector}
-use Rattle.track.specs.declared.find.Sector.TheVariants.{Slot, Fault}
+use Rattle.track.specs.Find.{Where}
+use Rattle.track.specs.Find.{On, Off}
+use Rattle.track.specs.Find.{Sector}
+use Rattle.track.specs.Find.{Slot, Fault}
 use Rattle.track.specs.Image.{Fits, track_bytes, slot_data}
 use Rattle.track.specs.Find.{where_of, sector_found}
 use Rattle.track.specs.Pair.{state_of}

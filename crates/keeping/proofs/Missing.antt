@@ -10,9 +10,9 @@ use Rattle.base.proofs.Decide.{pick_true, pick-false, pick-both}
 use Rattle.geometry.specs.declared.params.Params.{Params}
 use Rattle.geometry.specs.declared.params.Track.{Track}
 use Rattle.geometry.specs.Params.{Within}
-use Rattle.track.specs.declared.find.Where.TheVariants.{Off}
-use Rattle.track.specs.declared.find.Sector.{Sector}
-use Rattle.track.specs.declared.find.Sector.TheVariants.{Slot, Fault}
+use Rattle.track.specs.Find.{Off}
+use Rattle.track.specs.Find.{Sector}
+use Rattle.track.specs.Find.{Slot, Fault}
 use Rattle.track.specs.Find.{where_of, sector_found}
 use Rattle.track.proofs.Laws.{sector_off, located_code}
 use Rattle.contents.specs.Content.{Content, Missing, content_in, content_at}

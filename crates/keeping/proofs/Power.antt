@@ -14,14 +14,14 @@ use Rattle.geometry.specs.Params.{OnDrive, track_of, sector_of}
 use Rattle.geometry.proofs.Addresses.{same_track, sector_in_lem}
 use Rattle.track.specs.declared.id.Id.{Id}
 use Rattle.track.specs.declared.state.State.TheVariants.{Moved}
-use Rattle.track.specs.declared.find.Where.TheVariants.{On}
+use Rattle.track.specs.Find.{On}
 use Rattle.track.specs.Id.{id_for}
 use Rattle.track.specs.State.{flag_of}
 use Rattle.track.specs.Image.{Fits, first_id}
 use Rattle.track.specs.Find.{where_of}
 use Rattle.track.specs.Pair.{state_of}
 use Rattle.track.proofs.Laws.{home_parts, on_same}
-use Rattle.track.specs.declared.find.Sector.TheVariants.{Slot}
+use Rattle.track.specs.Find.{Slot}
 use Rattle.sectors.specs.Transfer.{found}
 use Rattle.sectors.proofs.Laws.{found_there}
 use Rattle.contents.specs.Content.{Bytes, content_at, content_of}

@@ -7,8 +7,8 @@ use lib.ListN.{length}
 use Rattle.geometry.specs.declared.params.Params.{Params}
 use Rattle.geometry.specs.declared.params.Track.{Track}
 use Rattle.geometry.specs.Params.{track_count, image_length}
-use Rattle.track.specs.declared.find.Where.TheVariants.{On, Off}
-use Rattle.track.specs.declared.find.Sector.TheVariants.{Slot}
+use Rattle.track.specs.Find.{On, Off}
+use Rattle.track.specs.Find.{Slot}
 use Rattle.track.specs.Image.{track_bytes, slot_data}
 use Rattle.track.specs.Find.{where_of, slot_used, sector_in, sector_found}
 use Rattle.track.proofs.Laws.{length_track, length_data, used_holds, sector_on, sector_off}

@@ -11,8 +11,9 @@ use Rattle.geometry.specs.declared.params.Track.{Track}
 use Rattle.geometry.specs.Params.{track_count}
 use Rattle.track.specs.Image.{Fits, track_bytes, slot_data}
 use Rattle.track.proofs.Laws.{on_same, located_there, located_in}
+use Rattle.track.specs.Search.{Note}
 use Rattle.contents.specs.Content.{read_bytes}
-use Rattle.keeping.specs.Keep.{Write, after_write, write_with, sectors_of, noted_data, write_of, after_writes, Mapped, Noting, Located, Keepable}
+use Rattle.keeping.specs.Keep.{slot_noted, Write, after_write, write_with, sectors_of, noted_data, write_of, after_writes, Mapped, Noting, Located, Keepable}
 use Rattle.keeping.proofs.Reading.{content_slot}
 use Rattle.keeping.proofs.Order.{leave_at, writes_none, writes_more}
 use Rattle.keeping.proofs.Copying.{copied}
@@ -31,10 +32,10 @@ module _ (p : Params) (from to : Track) (map : List ℕ) (x y : ℕ → List ℕ
   write_late h = leave_at p from to map x i h ∙ sym (leave_at p from to map y i h)
 
 -- ---- the slots noted
-module _ (p : Params) (from : Track) (slots image : List ℕ) (located : Located p from slots image) where
+module _ (p : Params) (from : Track) (slots : List Note) (image : List ℕ) (located : Located p from slots image) where
   pub located_noting : from.0 < track_count p → length slots ≡ 32 → Noting p.sectors slots
   unfolding Located
-  located_noting h l = record { long = l; below = λ s hs. let r = located s hs in (located_in p from s image r.0 _ r.1 h).1 }
+  located_noting h l = record { long = l; noted = λ s hs. (located s hs).0; below = λ s hs. let r = located s hs in (located_in p from s image r.1 _ r.2 h).1 }
 
   -- they have the sectors' data, as long as A's stretch stays
   located_data : (to : Track) → Keepable p from to image → (now : List ℕ) → track_bytes p from now ≡ track_bytes p from image → (s : ℕ) → s < p.sectors
@@ -42,11 +43,11 @@ module _ (p : Params) (from : Track) (slots image : List ℕ) (located : Located
   unfolding Located read_bytes
   located_data to may now same s h =
       let r = located s h in
-      let u : r.0 ≡ from = on_same r.0 from (sym (located_there p from s image r.0 _ r.1).0 ∙ may.home) in
-      ap (slot_data p (get_or slots s 0)) same ∙ ap (λ (t : Track). slot_data p (get_or slots s 0) (track_bytes p t image)) (sym u)
-      ∙ sym (ap read_bytes (content_slot p from r.0 s _ image r.1))
+      let u : r.1 ≡ from = on_same r.1 from (sym (located_there p from s image r.1 _ r.2).0 ∙ may.home) in
+      ap (slot_data p (slot_noted slots s)) same ∙ ap (λ (t : Track). slot_data p (slot_noted slots s) (track_bytes p t image)) (sym u)
+      ∙ sym (ap read_bytes (content_slot p from r.1 s _ image r.2))
 
-module _ (p : Params) (from to : Track) (map slots image : List ℕ) (fits : Fits p image) (maps : Mapped p.sectors map) (may : Keepable p from to image)
+module _ (p : Params) (from to : Track) (map : List ℕ) (slots : List Note) (image : List ℕ) (fits : Fits p image) (maps : Mapped p.sectors map) (may : Keepable p from to image)
     (located : Located p from slots image) where
   write_same : (i : ℕ) → write_with p from to map (noted_data p from slots (after_writes p from to map image i)) i ≡ write_of p from to map image i
   unfolding write_of
@@ -75,7 +76,7 @@ module _ (p : Params) (from to : Track) (map image : List ℕ) (fits : Fits p im
   pub stepped_fits : Fits p now
   stepped_fits = record { within = fits.within; long = omega (arith, fits.long, stepped_length) }
 
-  pub stepped_more : (slots : List ℕ) → Located p from slots image → (next : List ℕ) → i < count
+  pub stepped_more : (slots : List Note) → Located p from slots image → (next : List ℕ) → i < count
       → next ≡ after_write p (write_with p from to map (noted_data p from slots now) i) now → Stepped p from to map image next count (i + 1)
   stepped_more slots located next h e =
       let same : write_with p from to map (noted_data p from slots now) i ≡ write_of p from to map image i =
@@ -85,6 +86,3 @@ module _ (p : Params) (from to : Track) (map image : List ℕ) (fits : Fits p im
         is = e ∙ ap (λ (x : Write). after_write p x now) same ∙ ap (after_write p (write_of p from to map image i)) w.is ∙ sym (writes_more p from to map image i)
             ∙ ap (after_writes p from to map image) (sym (add-one i));
       }
-
-  pub stepped_all : count ≤ i → now ≡ after_writes p from to map image count
-  stepped_all h = let e : i ≡ count = omega (arith, w.most) in w.is ∙ ap (after_writes p from to map image) e

@@ -10,7 +10,7 @@ use Rattle.base.proofs.Parts.{cell_in, part_part, splice_lent}
 use Rattle.geometry.specs.declared.params.Params.{Params}
 use Rattle.geometry.specs.declared.params.Track.{Track}
 use Rattle.geometry.specs.Params.{Within, track_count, slot_size, track_size, image_length, track_start}
-use Rattle.geometry.proofs.Sizes.{count_most, tracks_most}
+use Rattle.geometry.proofs.Sizes.{count_most}
 use Rattle.track.specs.declared.state.State.TheVariants.{Moved, Taken}
 use Rattle.track.specs.State.{partner_of}
 use Rattle.track.specs.Id.{id_bytes, id_for}
@@ -28,9 +28,6 @@ slot_inside p t k len h hk l = omega (arith, track_room p t len h l, cell_in (sl
 module _ (p : Params) (t : Track) (k start size : ℕ) (es : start ≡ track_start p t) (ew : size ≡ slot_size p) where
   pub slot_at : start + k * size ≡ slot_start p t k
   slot_at = let z : k * size ≡ k * slot_size p = ap (λ (i : ℕ). k * i) ew in omega arith
-
-  pub slot_most : Within p → t.0 < track_count p → k < p.sectors → start + k * size ≤ 119275536
-  slot_most within h hk = omega (arith, slot_at, tracks_most p within, slot_inside p t k (image_length p) h hk (omega arith))
 
 -- ---- an ID, and data from another slot, as they are lent and copied
 module _ (p : Params) (t : Track) (k place : ℕ) (e : place ≡ slot_start p t k) where

@@ -1,17 +1,20 @@
 -- Request E7: track A, `from`, is moved to track B, `to`, with its contents, by single writes in a fixed order. A map here is a layout, the
 -- sector in each slot, and no patient's map.
-use Rattle.std.specs.Prelude.{ℕ, zero, suc, ◌+◌, ◌-◌, ◌*◌, ◌/◌, ◌%◌, ◌<◌, ◌≡◌, ◌⊎◌, List, length, get_or, eqb, ltb}
+use Rattle.std.specs.Prelude.{ℕ, zero, suc, ◌+◌, ◌-◌, ◌*◌, ◌/◌, ◌%◌, ◌<◌, ◌≡◌, ◌⊎◌, List, length, get_or, eqb, ltb, IsSome}
+use Rattle.std.specs.Option.{unwrap_or}
+use Rattle.std.specs.declared.option.Option.TheVariants.{None}
 use Rattle.base.specs.Pick.{pick}
 use Rattle.base.specs.Part.{splice}
 use Rattle.geometry.specs.declared.params.Track.{Track}
 use Rattle.geometry.specs.declared.params.Params.{Params}
 use Rattle.geometry.specs.Params.{track_count, slot_size, track_start}
 use Rattle.track.specs.declared.state.State.TheVariants.{Sound, Moved, Taken}
-use Rattle.track.specs.declared.find.Where.TheVariants.{On}
-use Rattle.track.specs.declared.find.Sector.TheVariants.{Slot}
+use Rattle.track.specs.Find.{On}
+use Rattle.track.specs.Find.{Slot}
 use Rattle.track.specs.Id.{id_bytes, id_for}
 use Rattle.track.specs.Image.{track_bytes, slot_data}
 use Rattle.track.specs.Find.{where_of, sector_found}
+use Rattle.track.specs.Search.{Note}
 use Rattle.track.specs.Pair.{state_of}
 use Rattle.contents.specs.Content.{Content, Bytes, Missing, read_bytes, content_at}
 
@@ -96,15 +99,21 @@ pub record Mapped (n : ℕ) (map : List ℕ) : Type 0 where
   pub below : (k : ℕ) → k < n → get_or map k 0 < n
   pub has : (s : ℕ) → s < n → (k : ℕ) × (k < n) × (get_or map k 0 ≡ s)
 
+-- The slot that is noted for sector s.
+abbrev pub slot_noted : (slots : List Note) → (s : ℕ) → ℕ
+slot_noted slots s = unwrap_or (get_or slots s None) 0
+
 -- The slot of each of n sectors is noted, in a list of 32, the most sectors that a track has.
-pub record Noting (n : ℕ) (slots : List ℕ) : Type 0 where
+pub record Noting (n : ℕ) (slots : List Note) : Type 0 where
   pub long : length slots ≡ 32
-  pub below : (s : ℕ) → s < n → get_or slots s 0 < n
+  pub noted : (s : ℕ) → s < n → IsSome (get_or slots s None)
+  pub below : (s : ℕ) → s < n → slot_noted slots s < n
 
 -- Each sector of track t is found, in the slot that is noted for it.
-unfoldable pub Located : Params → Track → (slots image : List ℕ) → Type 0
-Located p t slots image = (s : ℕ) → s < p.sectors → (u : Track) × (sector_found p t s image ≡ Slot u (get_or slots s 0))
+unfoldable pub Located : Params → Track → (slots : List Note) → (image : List ℕ) → Type 0
+Located p t slots image =
+    (s : ℕ) → s < p.sectors → IsSome (get_or slots s None) × (u : Track) × (sector_found p t s image ≡ Slot u (slot_noted slots s))
 
 -- The data in the slots of track t that are noted.
-abbrev pub noted_data : Params → Track → (slots image : List ℕ) → (s : ℕ) → List ℕ
-noted_data p t slots image s = slot_data p (get_or slots s 0) (track_bytes p t image)
+abbrev pub noted_data : Params → Track → (slots : List Note) → (image : List ℕ) → (s : ℕ) → List ℕ
+noted_data p t slots image s = slot_data p (slot_noted slots s) (track_bytes p t image)

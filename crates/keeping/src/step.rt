@@ -7,7 +7,6 @@ ghost use Rattle.track.specs.Id.{id_bytes, id_for};
 ghost use Rattle.track.specs.Image.{Fits, track_bytes, slot_data};
 ghost use Rattle.keeping.specs.Keep.{slot_start, after_write, write_with, noted_data, after_writes, kept, Mapped, Noting, Located, Keepable};
 
-use base::bytes::{copy_bytes, copy_within};
 use geometry::params::{Params, Track};
 use track::id::{id_bytes, id_for};
 use track::state::State;
@@ -27,9 +26,8 @@ fn write_id(image: &mut [u8], p: Params, t: Track, state: State, k: usize, s: u8
     ensures { image.new ≡ splice (slot_start p t k) (id_bytes (id_for p t state s)) image.old }
 {
     let start = slot_start(p, t, k);
-    let end = start + 8;
     let bytes = id_bytes(id_for(p, t, state, s));
-    copy_bytes(&mut image[start..end], &bytes);
+    image[start..start + 8].copy_from_slice(&bytes);
 }
 
 // The data of slot k of track `to`: those in slot j of track `from`, copied once.
@@ -39,17 +37,18 @@ fn write_body(image: &mut [u8], p: Params, from: Track, j: usize, to: Track, k: 
 {
     let source = slot_start(p, from, j) + 8;
     let place = slot_start(p, to, k) + 8;
-    copy_within(image, source, place, p.size);
+    image.copy_within(source..source + p.size, place);
 }
 
-// Write i of a move; `slots` has the slot of each sector of track `from`.
+// Write i of a move; `slots` has the slot of each sector of track `from`. Which write it is goes by a number, since what holds after a
+// power failure is said of the first i writes (`write_with`).
 pub fn keep_step(
     image: &mut [u8],
     p: Params,
     from: Track,
     to: Track,
     map: &[u8],
-    slots: &[u8],
+    slots: &[Option<u8>],
     i: usize,
 )
     requires { Fits p image.old × (from.0 < track_count p) × (to.0 < track_count p) × Mapped p.sectors map.now
@@ -69,7 +68,7 @@ pub fn keep_step(
         write_id(image, p, to, State::Taken(from), k, s);
         return;
     }
-    let j = slots[s as usize];
+    let j = slots[s as usize].unwrap();
     write_body(image, p, from, j as usize, to, k);
 }
 
@@ -80,22 +79,21 @@ pub fn keep_steps(
     from: Track,
     to: Track,
     map: &[u8],
-    slots: &[u8],
+    slots: &[Option<u8>],
     count: usize,
 )
     requires { Fits p image.old × Mapped p.sectors map.now × Keepable p from to image.old × (length slots.now ≡ 32)
         × Located p from slots.now image.old × (count ≤ p.sectors * 3) }
     ensures { image.new ≡ after_writes p from to map.now image.old count }
 {
-    let mut i = 0;
-    while i < count {
+    for i in 0..count {
         keep_step(image, p, from, to, map, slots, i);
-        i += 1;
     }
 }
 
 // The whole move.
-pub fn keep(image: &mut [u8], p: Params, from: Track, to: Track, map: &[u8], slots: &[u8])
+#[tactic(auto, unfolding(crate::specs::Keep::kept))]
+pub fn keep(image: &mut [u8], p: Params, from: Track, to: Track, map: &[u8], slots: &[Option<u8>])
     requires { Fits p image.old × Mapped p.sectors map.now × Keepable p from to image.old × (length slots.now ≡ 32)
         × Located p from slots.now image.old }
     ensures { image.new ≡ kept p from to map.now image.old }

@@ -3,7 +3,6 @@
 
 ghost use Rattle.std.specs.Prelude.{◌≤◌, ◌<◌};
 
-use base::bytes::same_bytes;
 use interleave::layout;
 use std::io;
 
@@ -13,13 +12,9 @@ const TABLE_4_12: [u8; 32] = [
     18, 31, 12, 25, 6, 19,
 ];
 
-fn wide(x: u8) -> u64 {
-    u64::from(x)
-}
-
 fn print_sectors(rt: &impl Print, sectors: &[u8]) -> io::Result<()> {
     for sector in sectors {
-        print!(rt; " {}", wide(*sector))?;
+        print!(rt; " {sector}")?;
     }
     println!(rt; "")
 }
@@ -29,12 +24,12 @@ fn print_layout(rt: &impl Print, n: usize, f: usize) -> io::Result<()>
 {
     let map = layout(n, f);
     print!(rt; "{n} sectors, interleave {f}:")?;
-    print_sectors(rt, &map[0..n])
+    print_sectors(rt, &map[..n])
 }
 
 fn main(rt: HostRuntime) -> io::Result<()> {
     print_layout(&rt, 32, 5)?;
-    if same_bytes(&layout(32, 5), &TABLE_4_12) {
+    if layout(32, 5) == TABLE_4_12 {
         println!(rt; "as in table 4-12")?;
     } else {
         println!(rt; "NOT as in table 4-12")?;

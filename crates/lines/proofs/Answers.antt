@@ -16,6 +16,7 @@ use Rattle.model.specs.declared.record.Outcome.{Outcome}
 use Rattle.model.specs.Block.{block_length}
 use Rattle.model.specs.Engine.{execute, reset_of}
 use Rattle.engine.specs.Results.{result_now}
+use Rattle.std.specs.Prelude.{is_some}
 use Rattle.hex_text.specs.declared.line.Line.{Line}
 use Rattle.hex_text.specs.Line.{line_now, whole_of}
 use Rattle.hex_text.specs.Frame.{is_reset}
@@ -92,11 +93,11 @@ module _ (c : Controller) (line : Line) (bytes area : List ℕ) (images : List (
       unfolding whole_of
       bad_answered e = spoilt_answered (none_said (pick_true _ _ _ (rw e))) is
 
-      pub half_answered : line.half ≡ true → Says said told text after area images
+      pub half_answered : is_some line.high ≡ true → Says said told text after area images
       unfolding whole_of
       half_answered e = spoilt_answered (none_said (pick_true _ _ _ (rw (e, or-true line.bad)))) is
 
-  module _ (bad : line.bad ≡ false) (half : line.half ≡ false) (reset : Bool) (is : reset ≡ is_reset (take (line.count - 0) bytes)) where
+  module _ (bad : line.bad ≡ false) (half : is_some line.high ≡ false) (reset : Bool) (is : reset ≡ is_reset (take (line.count - 0) bytes)) where
     whole_line : whole_of (line_now line bytes) ≡ some (take (line.count - 0) bytes)
     unfolding whole_of
     whole_line = rw (sub-zero line.count) (pick-false _ _ _ (rw (bad, half)))

@@ -7,8 +7,8 @@ use native.Mathlib.Nat.{mul-le-mul_right}
 use lib.ListN.{length}
 use Rattle.base.proofs.Parts.{length_splice}
 use Rattle.geometry.specs.declared.params.Params.{Params}
-use Rattle.geometry.specs.declared.config.Setting.{Setting}
-use Rattle.geometry.specs.declared.config.Setting.TheVariants.{Valid, Invalid}
+use Rattle.geometry.specs.Config.{Setting}
+use Rattle.std.specs.Prelude.{Some, None}
 use Rattle.geometry.specs.Medium.{medium_of}
 use Rattle.geometry.proofs.Settings.{setting_within}
 use Rattle.track.specs.Image.{Fits}
@@ -23,8 +23,8 @@ use Rattle.model.specs.declared.table.FreeCommand.TheVariants.{RequestSense, Rea
 use Rattle.model.specs.declared.table.DiskCommand.TheVariants.{SectorWork}
 use Rattle.model.specs.declared.table.SectorCommand.TheVariants.{Read}
 use Rattle.model.specs.declared.verdict.View.{View}
-use Rattle.model.specs.declared.verdict.Verdict.{Verdict}
-use Rattle.model.specs.declared.verdict.Verdict.TheVariants.{Refused, Faulty, Passed}
+use Rattle.model.specs.Verdicts.{Verdict}
+use Rattle.model.specs.Verdicts.{Refused, Faulty, Passed}
 use Rattle.model.specs.Block.{block_of, count_of}
 use Rattle.model.specs.Table.{is_among, check_number, TableRow, row_for}
 use Rattle.model.specs.Checks.{size_in, bytes_of, judge}
@@ -64,7 +64,7 @@ module _ (b : Block) (given : List ℕ) (area : ℕ) (entry : Drive) (buffer ima
         (carry_out b view.setting given entry buffer image (row_for b.opcode).command)) passed
 
     module _ (is : (row_for b.opcode).command ≡ OnDisk (SectorWork Read)) where
-      sectors_fit : (p : Params) → view.setting ≡ Valid p → length (reading p (count_of b) b.address (begun image)).handed ≤ area
+      sectors_fit : (p : Params) → view.setting ≡ Some p → length (reading p (count_of b) b.address (begun image)).handed ≤ area
       unfolding view_of row_for opcode_for is_among check_number bytes_of size_in
       sectors_fit p e =
           let known = setting_known (medium_of b.drive) entry (length image) p e in
@@ -78,8 +78,8 @@ module _ (b : Block) (given : List ℕ) (area : ℕ) (entry : Drive) (buffer ima
 
       read_fits : (s : Setting) → view.setting ≡ s → length (carry_out b s given entry buffer image (OnDisk (SectorWork Read))).handed ≤ area
       unfolding carry_out do_disk do_sectors read transferred
-      read_fits Invalid e = omega arith
-      read_fits (Valid p) e = sectors_fit p e
+      read_fits None e = omega arith
+      read_fits (Some p) e = sectors_fit p e
 
     hands_fit : (command : Command) (status : ℕ) (handed : List ℕ) → (row_for b.opcode).command ≡ command → after.handed ≡ handed
         → Hands b entry buffer command status handed → length handed ≤ area

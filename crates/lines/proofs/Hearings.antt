@@ -5,10 +5,13 @@ use mathlib.Core.Bool.{Bool, true, false}
 use mathlib.Core.List.{List, [], ◌∷◌}
 use native.Mathlib.Omega.{arith}
 use native.Mathlib.Nat.{sub-zero}
-use native.Mathlib.Numerals.{add-one}
-use lib.ListN.{length, take, drop, get_or, drop_of_length-le}
-use lib.Seq.{take_all, drop-cons}
+use lib.ListN.{length, take, get_or}
+use lib.Seq.{take_all}
 use borrow.Author.Tests.{eq-eqb, ne_eqb}
+use Rattle.std.specs.Prelude.{eqb}
+use Rattle.std.specs.List.{position_or_len}
+use Rattle.std.proofs.lemmas.List.Sums.{position_or_len_is}
+use Rattle.base.specs.Pick.{pick}
 use Rattle.base.specs.Part.{splice}
 use Rattle.base.proofs.Decide.{pick_true, pick-false}
 use Rattle.base.proofs.Parts.{splice_none}
@@ -23,7 +26,7 @@ use Rattle.lines.specs.Said.{Says, line_said}
 use Rattle.lines.specs.Talk.{Talk, answered, talked, closed}
 use Rattle.lines.specs.Frames.{first_talk, Talking}
 use Rattle.lines.specs.Hearing.{talk_now, Speaks, AtFirst, feed_at, line_end}
-use Rattle.lines.proofs.Talks.{with_reading, quiet, feed_here, feed_later, feed_within, heard_open, heard_line}
+use Rattle.lines.proofs.Talks.{with_reading, quiet, feed_within, heard_open, heard_line}
 use Rattle.lines.proofs.Standing.{stands}
 
 -- ---- before the first character
@@ -32,33 +35,23 @@ pub begun_first : (r : Session) (bytes area : List ℕ) (images : List (List ℕ
 unfolding first_talk
 begun_first r bytes area images first c l = rw (c, l, first.0, first.1, first.2)
 
--- ---- the loop that looks for the first line feed: it is not among those before i
-pub record Sought (input : List ℕ) (i : ℕ) : Type 0 where
-  pub most : i ≤ length input
-  pub rest : i + feed_at (drop i input) ≡ feed_at input
+-- ---- the first line feed, as `position` finds it
+pub feed_first : (input : List ℕ) → position_or_len (λ c. eqb c 0x0A) input ≡ feed_at input
+unfolding feed_at pick
+feed_first [] = refl
+feed_first (c ∷ input) = by (eqb c 0x0A) refl (feed_first input)
+  where
+    by : (b : Bool) → eqb c 0x0A ≡ b → position_or_len (λ c. eqb c 0x0A) input ≡ feed_at input → position_or_len (λ c. eqb c 0x0A) (c ∷ input) ≡ feed_at (c ∷ input)
+    by true e h = rw e refl
+    by false e h =
+        let n = position_or_len (λ c. eqb c 0x0A) input in
+        let one : 1 + n ≡ suc n = omega arith in
+        rw e (one ∙ ap suc h)
 
-module _ (input : List ℕ) where
-  pub sought_none : Sought input 0
-  sought_none = record { most = omega arith; rest = omega arith }
-
-  module _ (i : ℕ) (s : Sought input i) where
-    pub sought_all : length input ≤ i → i ≡ feed_at input
-    unfolding feed_at
-    sought_all h = let e = (rw (drop_of_length-le input {i = i} h) at s.rest) in omega (arith, e)
-
-    module _ (h : i < length input) where
-      from_here : drop i input ≡ get_or input i 0 ∷ drop (suc i) input
-      from_here = drop-cons input i 0 h
-
-      pub sought_here : get_or input i 0 ≡ 0x0A → i ≡ feed_at input
-      sought_here e =
-          let z : feed_at (drop i input) ≡ 0 = rw from_here (feed_here _ _ (eq-eqb _ _ e)) in
-          omega (arith, s.rest)
-
-      pub sought_more : (get_or input i 0 ≡ 0x0A → ⊥) → Sought input (i + 1)
-      sought_more ne =
-          let z : feed_at (drop i input) ≡ suc (feed_at (drop (suc i) input)) = rw from_here (feed_later _ _ (ne_eqb _ _ ne)) in
-          record { most = omega arith; rest = rw (add-one i) (omega (arith, s.rest)) }
+pub first_is : (input : List ℕ) (n : ℕ) → n ≤ length input → ((k : ℕ) → k < n → get_or input k 0 ≡ 0x0A → ⊥) → (n < length input → get_or input n 0 ≡ 0x0A)
+    → n ≡ feed_at input
+first_is input n l before here =
+    sym (position_or_len_is (λ c. eqb c 0x0A) input n 0 l (λ k h. ne_eqb _ _ (before k h)) (λ h. eq-eqb _ _ (here h))) ∙ feed_first input
 
 -- ---- a line that has ended
 pub line_answered : (session : Session) (bytes area area' text text' : List ℕ) (images images' : List (List ℕ)) (told : Told)

@@ -22,7 +22,7 @@ use Rattle.lines.proofs.Talks.{with_reading, quiet, talked_pieces, talked_plain,
 begun_one : (x : Reading) (c : ℕ) → is_begun (accepted x c).line ≡ true
 unfolding is_begun spoilt spoilt_line
 begun_one x c =
-    accepted_by (λ y. is_begun y.line ≡ true) x c (λ e. rw e) refl (λ _. refl) (λ _. lt-ltb 0 (x.line.count + 1) (omega arith))
+    accepted_by (λ y. is_begun y.line ≡ true) x c (λ e. rw e) refl (λ _ _. refl) (λ _ _ _. lt-ltb 0 (x.line.count + 1) (omega arith))
 
 begun_more : (text : List ℕ) (x : Reading) (c : ℕ) → is_begun (accepted_all x (c ∷ text)).line ≡ true
 unfolding accepted_all

@@ -12,7 +12,7 @@ use Rattle.base.specs.Pick.{pick}
 use Rattle.base.specs.Part.{part}
 use Rattle.base.specs.Same.{same_bytes}
 use Rattle.base.proofs.Decide.{pick-both}
-use Rattle.geometry.specs.declared.config.Setting.TheVariants.{Invalid}
+use Rattle.std.specs.Prelude.{None}
 use Rattle.geometry.specs.Medium.{medium_of, is_in, ranges_of}
 use Rattle.geometry.specs.Config.{fields_in, setting_by, setting_of, label_setting}
 use Rattle.model.specs.declared.record.Controller.{Controller}
@@ -25,6 +25,7 @@ use Rattle.model.proofs.claim.Agrees.{Agrees}
 use Rattle.model.proofs.claim.Restarted.{agree_fresh}
 use Rattle.model.proofs.claim.Called.{call_answered}
 use Rattle.hex_text.specs.Line.{whole_of}
+use Rattle.hex_text.proofs.Digits.{IsDigit}
 use Rattle.hex_text.proofs.Rooms.{accepted_high, accepted_room}
 use Rattle.lines.specs.Said.{Said, line_said, reset_said, bad_said, frame_said, result_said}
 use Rattle.lines.specs.Talk.{Talk, Spoken, answered, heard, talked}
@@ -68,14 +69,14 @@ module _ (c : Controller) (area : List ℕ) (images : List (List ℕ)) (w : Whol
 
 -- ---- the program
 pub record Stands (x : Talk) : Type 0 where
-  pub small : x.reading.line.high < 16
+  pub small : IsDigit x.reading.line.high
   pub room : x.reading.line.count ≤ length x.reading.bytes
   pub whole : Whole x.controller x.area x.images
 
 answered_stands : (x : Talk) → Stands x → Stands (answered x).talk
 unfolding answered WholeSaid
 answered_stands x s = record {
-  small = omega arith;
+  small = tt;
   room = omega arith;
   whole = line_whole x.controller x.area x.images s.whole (whole_of x.reading);
 }
@@ -97,7 +98,7 @@ talked_stands [] x s = s
 talked_stands (c ∷ input) x s = talked_stands input (heard x c).talk (heard_stands x c s)
 
 -- zeros are no label, nor is an empty image
-zeros_none : (d : ℕ) → d < 4 → label_setting (medium_of d) (image_of d first_images) ≡ Invalid
+zeros_none : (d : ℕ) → d < 4 → label_setting (medium_of d) (image_of d first_images) ≡ None
 unfolding first_images image_of medium_of label_setting setting_of setting_by fields_in ranges_of is_in same_bytes part pick
 zeros_none zero h = refl
 zeros_none (suc zero) h = refl
@@ -108,7 +109,7 @@ zeros_none (suc (suc (suc (suc d)))) h = absurd (omega arith)
 first_stands : Stands first_talk
 unfolding first_talk
 first_stands = record {
-  small = omega arith;
+  small = tt;
   room = omega arith;
   whole = record { long = length-replicate {A = ℕ} 1024 0; machine = _; agrees = agree_fresh first_images zeros_none };
 }

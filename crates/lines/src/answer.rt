@@ -1,7 +1,8 @@
 // One line of the program frames: a frame, Reset or bad hex, and the line of hex digits that answers it.
 ghost use Rattle.std.specs.Prelude.{◌≡◌, ◌+◌, ◌*◌, ◌≤◌, min, length};
 ghost use Rattle.base.specs.Part.{splice};
-ghost use Rattle.model.specs.Engine.{images_of, reset_of};
+ghost use Rattle.model.specs.Engine.{reset_of};
+ghost use Rattle.pouring.specs.Lent.{lent, SameLent};
 ghost use Rattle.hex_text.specs.Line.{line_now, whole_of};
 ghost use Rattle.lines.specs.Said.{answer_text, bad_text, reset_text, Says, frame_said, line_said};
 
@@ -12,6 +13,7 @@ use hex_text::frame::is_reset;
 use hex_text::line::Line;
 use hex_text::text::encode;
 use model::record::{Answer, Controller};
+use pouring::images::Images;
 
 const LINE_FEED: u8 = 0x0A;
 
@@ -36,63 +38,44 @@ fn tell(text: &mut [u8], answer: Answer, handed: &[u8]) -> usize
     end + 1
 }
 
-fn least(a: usize, b: usize) -> usize
-    ensures { result ≡ min a b }
-{
-    if a < b { a } else { b }
-}
-
 // A frame: the block, as long as its first byte says, and the rest data.
 fn answer_frame(
     c: Controller,
     frame: &[u8],
     area: &mut [u8],
-    image0: &mut [u8],
-    image1: &mut [u8],
-    image2: &mut [u8],
-    image3: &mut [u8],
+    images: &mut Images,
     text: &mut [u8],
 ) -> Told
     requires { 7 + 2 * length area.old ≤ length text.old }
-    ensures { Says (frame_said c frame.now area.old
-        (images_of image0.old image1.old image2.old image3.old))
-        result text.old text.new area.new
-        (images_of image0.new image1.new image2.new image3.new) }
+    ensures says { Says (frame_said c frame.now area.old (lent images.old))
+        result text.old text.new area.new (lent images.new) }
+    ensures same { SameLent images.old images.new }
 {
     let end = frame.len();
-    let n = least(block_length(frame), end);
-    let outcome = execute(
-        c,
-        &frame[0..n],
-        &frame[n..end],
-        area,
-        image0,
-        image1,
-        image2,
-        image3,
-    );
+    let n = block_length(frame).min(end);
+    let outcome = execute(c, &frame[0..n], &frame[n..end], area, images);
     let answer = outcome.answer;
     let controller = outcome.controller;
-    let handed = least(answer.bytes as usize, area.len());
+    let handed = (answer.bytes as usize).min(area.len());
     Told {
-        controller: controller,
+        controller,
         length: tell(text, answer, &area[0..handed]),
     }
 }
 
 // Reset: zeros.
-fn answer_reset(image0: &[u8], image1: &[u8], image2: &[u8], image3: &[u8], text: &mut [u8]) -> Told
+fn answer_reset(images: &Images, text: &mut [u8]) -> Told
     requires { 7 ≤ length text.old }
     ensures { (result.controller
-        ≡ (reset_of (images_of image0.now image1.now image2.now image3.now)).controller)
+        ≡ (reset_of (lent images.now)).controller)
         × (result.length ≡ 7) × (text.new ≡ splice 0 reset_text text.old) }
 {
-    let outcome = reset(image0, image1, image2, image3);
+    let outcome = reset(images.shared());
     let answer = outcome.answer;
     let controller = outcome.controller;
     Told {
-        controller: controller,
-        length: tell(text, answer, &image0[0..0]),
+        controller,
+        length: tell(text, answer, &[]),
     }
 }
 
@@ -116,36 +99,23 @@ pub fn answer_line(
     line: Line,
     bytes: &[u8],
     area: &mut [u8],
-    image0: &mut [u8],
-    image1: &mut [u8],
-    image2: &mut [u8],
-    image3: &mut [u8],
+    images: &mut Images,
     text: &mut [u8],
 ) -> Told
     requires { (7 + 2 * length area.old ≤ length text.old) × (line.count ≤ length bytes.now) }
-    ensures { Says (line_said c (whole_of (line_now line bytes.now)) area.old
-        (images_of image0.old image1.old image2.old image3.old))
-        result text.old text.new area.new
-        (images_of image0.new image1.new image2.new image3.new) }
+    ensures says { Says (line_said c (whole_of (line_now line bytes.now)) area.old (lent images.old))
+        result text.old text.new area.new (lent images.new) }
+    ensures same { SameLent images.old images.new }
 {
     let count = line.count;
     if line.bad {
         return answer_bad(c, text);
     }
-    if line.half {
+    if line.high.is_some() {
         return answer_bad(c, text);
     }
     if is_reset(&bytes[0..count]) {
-        return answer_reset(image0, image1, image2, image3, text);
+        return answer_reset(images, text);
     }
-    answer_frame(
-        c,
-        &bytes[0..count],
-        area,
-        image0,
-        image1,
-        image2,
-        image3,
-        text,
-    )
+    answer_frame(c, &bytes[0..count], area, images, text)
 }

@@ -1,6 +1,6 @@
 // The program's input, taken a line at a time: where the program stands, and what it says.
 ghost use Rattle.std.specs.Prelude.{◌≡◌, ◌+◌, ◌*◌, ◌≤◌, length, take};
-ghost use Rattle.model.specs.Engine.{images_of};
+ghost use Rattle.pouring.specs.Lent.{lent, SameLent};
 ghost use Rattle.lines.specs.Talk.{answered, talked, closed};
 ghost use Rattle.lines.specs.Frames.{first_talk, Talking};
 ghost use Rattle.lines.specs.Hearing.{talk_now, Speaks, AtFirst, text_length, feed_at, line_end};
@@ -9,6 +9,7 @@ use crate::answer::answer_line;
 use drives::reset::fresh;
 use hex_text::line::{Line, accept_all, is_begun, start};
 use model::record::Controller;
+use pouring::images::Images;
 
 const LINE_FEED: u8 = 0x0A;
 
@@ -28,20 +29,12 @@ pub struct Heard {
 }
 
 // Before the first character, with zeros in every slice that the program goes on to lend.
-pub fn begin(
-    bytes: &[u8],
-    area: &[u8],
-    image0: &[u8],
-    image1: &[u8],
-    image2: &[u8],
-    image3: &[u8],
-) -> Session
-    requires { AtFirst bytes.now area.now (images_of image0.now image1.now image2.now image3.now) }
-    ensures { talk_now result bytes.now area.now
-        (images_of image0.now image1.now image2.now image3.now) ≡ first_talk }
+pub fn begin(bytes: &[u8], area: &[u8], images: &Images) -> Session
+    requires { AtFirst bytes.now area.now (lent images.now) }
+    ensures { talk_now result bytes.now area.now (lent images.now) ≡ first_talk }
 {
     Session {
-        controller: fresh(image0, image1, image2, image3),
+        controller: fresh(images.shared()),
         line: start(),
     }
 }
@@ -52,29 +45,25 @@ fn answer(
     taken: usize,
     bytes: &[u8],
     area: &mut [u8],
-    image0: &mut [u8],
-    image1: &mut [u8],
-    image2: &mut [u8],
-    image3: &mut [u8],
+    images: &mut Images,
     text: &mut [u8],
 ) -> Heard
     requires { (7 + 2 * length area.old ≤ length text.old) × (session.line.count ≤ length bytes.now) }
     ensures taken_value { result.taken ≡ taken }
-    ensures speaks { Speaks (answered (talk_now session bytes.now area.old
-        (images_of image0.old image1.old image2.old image3.old)))
-        result text.old text.new bytes.now area.new
-        (images_of image0.new image1.new image2.new image3.new) }
+    ensures speaks { Speaks (answered (talk_now session bytes.now area.old (lent images.old)))
+        result text.old text.new bytes.now area.new (lent images.new) }
+    ensures same { SameLent images.old images.new }
 {
     let c = session.controller;
     let line = session.line;
-    let told = answer_line(c, line, bytes, area, image0, image1, image2, image3, text);
+    let told = answer_line(c, line, bytes, area, images, text);
     let controller = told.controller;
     Heard {
         session: Session {
-            controller: controller,
+            controller,
             line: start(),
         },
-        taken: taken,
+        taken,
         length: told.length,
     }
 }
@@ -83,14 +72,10 @@ fn answer(
 fn first_feed(input: &[u8]) -> usize
     ensures { result ≡ feed_at input.now }
 {
-    let mut i = 0;
-    while i < input.len() {
-        if input[i] == LINE_FEED {
-            return i;
-        }
-        i += 1;
-    }
-    i
+    input
+        .iter()
+        .position(|&c| c == LINE_FEED)
+        .unwrap_or(input.len())
 }
 
 // Takes the characters of the input up to and with the first line feed, or all, and answers the line that they end.
@@ -99,19 +84,15 @@ pub fn hear(
     input: &[u8],
     bytes: &mut [u8],
     area: &mut [u8],
-    image0: &mut [u8],
-    image1: &mut [u8],
-    image2: &mut [u8],
-    image3: &mut [u8],
+    images: &mut Images,
     text: &mut [u8],
 ) -> Heard
-    requires talking { Talking (talk_now session bytes.old area.old (images_of image0.old image1.old image2.old image3.old)) }
+    requires talking { Talking (talk_now session bytes.old area.old (lent images.old)) }
     requires text_length_in_bounds { text_length ≤ length text.old }
     ensures taken_value { result.taken ≡ line_end input.now }
-    ensures speaks { Speaks (talked (talk_now session bytes.old area.old
-        (images_of image0.old image1.old image2.old image3.old)) (take result.taken input.now))
-        result text.old text.new bytes.new area.new
-        (images_of image0.new image1.new image2.new image3.new) }
+    ensures speaks { Speaks (talked (talk_now session bytes.old area.old (lent images.old)) (take result.taken input.now))
+        result text.old text.new bytes.new area.new (lent images.new) }
+    ensures same { SameLent images.old images.new }
 {
     let c = session.controller;
     let first = session.line;
@@ -119,7 +100,7 @@ pub fn hear(
     let line = accept_all(first, bytes, &input[0..end]);
     let next = Session {
         controller: c,
-        line: line,
+        line,
     };
     if end == input.len() {
         return Heard {
@@ -128,17 +109,7 @@ pub fn hear(
             length: 0,
         };
     }
-    answer(
-        next,
-        end + 1,
-        bytes,
-        area,
-        image0,
-        image1,
-        image2,
-        image3,
-        text,
-    )
+    answer(next, end + 1, bytes, area, images, text)
 }
 
 // The input has ended: a last line without a line feed counts.
@@ -146,27 +117,21 @@ pub fn close(
     session: Session,
     bytes: &[u8],
     area: &mut [u8],
-    image0: &mut [u8],
-    image1: &mut [u8],
-    image2: &mut [u8],
-    image3: &mut [u8],
+    images: &mut Images,
     text: &mut [u8],
 ) -> Heard
-    requires talking { Talking (talk_now session bytes.now area.old (images_of image0.old image1.old image2.old image3.old)) }
+    requires talking { Talking (talk_now session bytes.now area.old (lent images.old)) }
     requires text_length_in_bounds { text_length ≤ length text.old }
-    ensures { Speaks (closed (talk_now session bytes.now area.old
-        (images_of image0.old image1.old image2.old image3.old)))
-        result text.old text.new bytes.now area.new
-        (images_of image0.new image1.new image2.new image3.new) }
+    ensures speaks { Speaks (closed (talk_now session bytes.now area.old (lent images.old)))
+        result text.old text.new bytes.now area.new (lent images.new) }
+    ensures same { SameLent images.old images.new }
 {
     let line = session.line;
     if is_begun(line) {
-        return answer(
-            session, 0, bytes, area, image0, image1, image2, image3, text,
-        );
+        return answer(session, 0, bytes, area, images, text);
     }
     Heard {
-        session: session,
+        session,
         taken: 0,
         length: 0,
     }

@@ -3,8 +3,8 @@ use Rattle.std.specs.Prelude.{ℕ, ◌+◌, ◌-◌, ◌*◌, ◌%◌, Bool, tru
 use Rattle.base.specs.Pick.{pick}
 use Rattle.geometry.specs.declared.params.Lba.{Lba}
 use Rattle.geometry.specs.declared.params.Params.{Params}
-use Rattle.geometry.specs.declared.config.Setting.{Setting}
-use Rattle.geometry.specs.declared.config.Setting.TheVariants.{Valid, Invalid}
+use Rattle.geometry.specs.Config.{Setting}
+use Rattle.std.specs.Prelude.{Some, None}
 use Rattle.geometry.specs.Params.{track_of, last_address}
 use Rattle.geometry.specs.Medium.{is_floppy}
 use Rattle.geometry.specs.Config.{is_valid}
@@ -17,9 +17,9 @@ use Rattle.model.specs.declared.table.Data.{Data}
 use Rattle.model.specs.declared.table.Data.TheVariants.{Nothing, Sense, Alternate, Configuration, Buffer, Sectors}
 use Rattle.model.specs.declared.verdict.View.{View}
 use Rattle.model.specs.declared.verdict.Hits.{Hits}
-use Rattle.model.specs.declared.verdict.Verdict.{Verdict}
-use Rattle.model.specs.declared.verdict.Verdict.TheVariants.{Refused, Faulty, Passed}
-use Rattle.model.specs.declared.verdict.Judgement.{Judgement}
+use Rattle.model.specs.Verdicts.{Verdict}
+use Rattle.model.specs.Verdicts.{Refused, Faulty, Passed}
+use Rattle.model.specs.Verdicts.{Judgement}
 use Rattle.model.specs.Block.{count_of}
 use Rattle.model.specs.Table.{HardOnly, Control, FillBit, KeepBit, Present, Parameters, Interleave, Address, Counted, Settled, SparedWhole, TableRow, applies, row_for}
 
@@ -63,8 +63,8 @@ block_wrong e b v =
 
 -- A question about the parameters in force: without any, 0Ah has come before it.
 unfoldable pub with_params : Setting → (Params → Bool) → Bool
-with_params Invalid ask = false
-with_params (Valid p) ask = ask p
+with_params None ask = false
+with_params (Some p) ask = ask p
 
 -- An interleave is 1 to n - 1.
 unfoldable pub interleave_wrong : (f : ℕ) → Params → Bool
@@ -79,8 +79,8 @@ unfoldable pub not_spared : (whole : Bool) → Lba → Params → Bool
 not_spared whole a p = not (whole && eqb (track_of p a).0 0)
 
 unfoldable pub size_in : Setting → ℕ
-size_in Invalid = 0
-size_in (Valid p) = p.size
+size_in None = 0
+size_in (Some p) = p.size
 
 -- The bytes of each kind of data. In 08 and 0Ah the lengths are count × D.
 unfoldable pub bytes_of : Data → Block → Setting → ℕ
@@ -134,9 +134,9 @@ judge b v given area = judge_over b (reach_of (applies Counted (row_for b.opcode
 -- ---- Copy (request E5): the same row of checks for the source, then for the destination, then 22h where both share a sector.
 -- The sectors that n source sectors fill, the last perhaps in part. Without parameters 0Ah comes first.
 unfoldable pub filling_of : (n : ℕ) → (from to : Setting) → ℕ
-filling_of n Invalid to = 0
-filling_of n (Valid p) Invalid = 0
-filling_of n (Valid p) (Valid q) = filled_by n p.size q.size
+filling_of n None to = 0
+filling_of n (Some p) None = 0
+filling_of n (Some p) (Some q) = filled_by n p.size q.size
 
 -- One drive, and an address that is among n of the source's and m of the destination's.
 unfoldable pub shares : CopyBlock → (n m : ℕ) → Bool

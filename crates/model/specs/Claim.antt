@@ -6,12 +6,12 @@ use Rattle.geometry.specs.declared.params.Lba.{Lba}
 use Rattle.geometry.specs.declared.params.Track.{Track}
 use Rattle.geometry.specs.declared.params.Params.{Params}
 use Rattle.geometry.specs.declared.medium.Medium.{Medium}
-use Rattle.geometry.specs.declared.config.Setting.TheVariants.{Valid, Invalid}
+use Rattle.std.specs.Prelude.{Some, None}
 use Rattle.geometry.specs.Params.{track_of, sector_of}
 use Rattle.geometry.specs.Medium.{medium_of}
 use Rattle.geometry.specs.Config.{setting_of, label_setting}
 use Rattle.track.specs.Image.{track_bytes, slot_data}
-use Rattle.track.specs.declared.find.Sector.TheVariants.{Slot}
+use Rattle.track.specs.Find.{Slot}
 use Rattle.track.specs.Find.{sector_found}
 use Rattle.model.specs.declared.record.Controller.{Controller}
 use Rattle.model.specs.declared.record.Answer.{Answer}
@@ -100,7 +100,7 @@ is_held (taken u) = false
 unfoldable pub Holds : Medium → Disk → (image : List ℕ) → Type 0
 Holds medium u image =
     (config : List ℕ) → u.stored ≡ some config
-    → (p : Params) × (setting_of medium config (length image) ≡ Valid p)
+    → (p : Params) × (setting_of medium config (length image) ≡ Some p)
     × ((a : Lba) → is_held (u.kind (track_of p a)) ≡ true
     → (t : Track) × (k : ℕ) × (sector_found p (track_of p a) (sector_of p a) image ≡ Slot t k)
     × (slot_data p k (track_bytes p t image) ≡ u.held a))
@@ -108,7 +108,7 @@ Holds medium u image =
 -- ---- The claim: over the images of the four drives
 unfoldable pub Claim : Type 0
 Claim =
-    (images : List (List ℕ)) → ((drive : ℕ) → drive < 4 → label_setting (medium_of drive) (image_of drive images) ≡ Invalid)
+    (images : List (List ℕ)) → ((drive : ℕ) → drive < 4 → label_setting (medium_of drive) (image_of drive images) ≡ None)
     → (calls : List Call)
     → let s = engine_at_end (begin images) calls in
     (engine_replies (begin images) calls ≡ replies (begin_machine images) (map fed calls))

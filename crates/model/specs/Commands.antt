@@ -8,8 +8,8 @@ use Rattle.geometry.specs.declared.params.Track.{Track}
 use Rattle.geometry.specs.declared.params.Params.{Params}
 use Rattle.geometry.specs.declared.medium.Medium.{Medium}
 use Rattle.geometry.specs.declared.medium.Medium.TheVariants.{HardDisk, Floppy}
-use Rattle.geometry.specs.declared.config.Setting.{Setting}
-use Rattle.geometry.specs.declared.config.Setting.TheVariants.{Valid, Invalid}
+use Rattle.geometry.specs.Config.{Setting}
+use Rattle.std.specs.Prelude.{Some, None}
 use Rattle.geometry.specs.Params.{track_count, track_of, last_address, further}
 use Rattle.geometry.specs.Medium.{medium_of, is_floppy}
 use Rattle.geometry.specs.Config.{setting_of, is_valid, label_rest, label_holds, precompensation_in}
@@ -202,9 +202,9 @@ do_disk b p given entry buffer image (SectorWork command) = do_sectors b p given
 -- Without parameters a command that needs them is 0Ah, which has been tested for before.
 unfoldable pub carry_out : Block → Setting → (given : List ℕ) → Drive → (buffer image : List ℕ) → Command → Effect
 carry_out b setting given entry buffer image (Free command) = do_free b given entry buffer image command
-carry_out b Invalid given entry buffer image (OnDisk command) =
+carry_out b None given entry buffer image (OnDisk command) =
     effect (failed b.drive b.drive 0x0A b.address 0 0 entry) buffer [] image
-carry_out b (Valid p) given entry buffer image (OnDisk command) = do_disk b p given entry buffer image command
+carry_out b (Some p) given entry buffer image (OnDisk command) = do_disk b p given entry buffer image command
 carry_out b setting given entry buffer image Unknown =
     effect (failed b.drive b.drive 0x20 b.address 0 0 entry) buffer [] image
 -- Copy's block has ten bytes, and it is two drives' command: it does not come here.

@@ -2,12 +2,12 @@
 use Rattle.std.specs.Prelude.{ℕ, ◌-◌, List}
 use Rattle.base.specs.Part.{splice}
 use Rattle.geometry.specs.declared.params.Params.{Params}
-use Rattle.geometry.specs.declared.config.Setting.{Setting}
-use Rattle.geometry.specs.declared.config.Setting.TheVariants.{Valid, Invalid}
+use Rattle.geometry.specs.Config.{Setting}
+use Rattle.std.specs.Prelude.{Some, None}
 use Rattle.geometry.specs.Params.{further}
 use Rattle.copying.specs.declared.route.Route.{Route}
-use Rattle.copying.specs.declared.route.End.{End}
-use Rattle.copying.specs.declared.route.End.TheVariants.{Going, SourceFault, TargetFault, Short}
+use Rattle.copying.specs.Ends.{End}
+use Rattle.copying.specs.Ends.{Going, SourceFault, TargetFault, Short}
 use Rattle.copying.specs.Copying.{Copying, copied}
 use Rattle.model.specs.declared.block.CopyBlock.{CopyBlock}
 use Rattle.model.specs.declared.record.Drive.{Drive}
@@ -46,9 +46,9 @@ copy_left k entry buffer x =
 
 -- Without parameters on either drive it is 0Ah, which has been tested for before.
 unfoldable pub copy_with : CopyBlock → (from to : Setting) → Drive → (buffer : List ℕ) → (images : List (List ℕ)) → CopyEffect
-copy_with k Invalid to entry buffer images =
+copy_with k None to entry buffer images =
     copy_effect (failed k.from.drive k.from.drive 0x0A k.from.address 0 0 entry) buffer images
-copy_with k (Valid p) Invalid entry buffer images =
+copy_with k (Some p) None entry buffer images =
     copy_effect (failed k.from.drive k.to.drive 0x0A k.to.address 0 0 entry) buffer images
-copy_with k (Valid p) (Valid q) entry buffer images =
+copy_with k (Some p) (Some q) entry buffer images =
     copy_left k entry buffer (copied (route_of k p q) (count_of k.from) images)

@@ -2,8 +2,8 @@
 use Rattle.std.specs.Prelude.{ℕ, true, false, List, [], ◌∷◌, length, set, replicate}
 use Rattle.base.specs.Pick.{pick}
 use Rattle.geometry.specs.declared.medium.Medium.{Medium}
-use Rattle.geometry.specs.declared.config.Setting.{Setting}
-use Rattle.geometry.specs.declared.config.Setting.TheVariants.{Valid, Invalid}
+use Rattle.geometry.specs.Config.{Setting}
+use Rattle.std.specs.Prelude.{Some, None}
 use Rattle.geometry.specs.Medium.{medium_of}
 use Rattle.geometry.specs.Config.{label_config, label_setting}
 use Rattle.model.specs.declared.block.Block.{Block}
@@ -92,8 +92,8 @@ execute c block given area images =
 -- ---- Reset: the buffer and all sixteen sense bytes are zero. A valid label comes into force, not pending; otherwise the
 -- drive has no parameters.
 unfoldable pub loaded_by : Setting → (config : List ℕ) → Drive
-loaded_by Invalid config = blank_drive
-loaded_by (Valid p) config = record { sense = replicate 4 0; config = config; known = true; pending = false }
+loaded_by None config = blank_drive
+loaded_by (Some p) config = record { sense = replicate 4 0; config = config; known = true; pending = false }
 
 unfoldable pub loaded : (drive : ℕ) → (image : List ℕ) → Drive
 loaded drive image = loaded_by (label_setting (medium_of drive) image) (label_config image)

@@ -1,5 +1,6 @@
 pub mod Block
 pub mod Table
+pub mod Verdicts
 pub mod Checks
 pub mod Sense
 pub mod Record

@@ -13,8 +13,8 @@ use Rattle.geometry.specs.declared.params.Track.{Track}
 use Rattle.geometry.specs.declared.params.Params.{Params}
 use Rattle.geometry.specs.declared.medium.Medium.{Medium}
 use Rattle.geometry.specs.declared.medium.Medium.TheVariants.{HardDisk, Floppy}
-use Rattle.geometry.specs.declared.config.Setting.{Setting}
-use Rattle.geometry.specs.declared.config.Setting.TheVariants.{Valid, Invalid}
+use Rattle.geometry.specs.Config.{Setting}
+use Rattle.std.specs.Prelude.{Some, None}
 use Rattle.geometry.specs.Params.{track_count, track_of, next, further, track}
 use Rattle.geometry.specs.Medium.{medium_of}
 use Rattle.geometry.specs.Config.{setting_of, is_valid, precompensation_in}
@@ -32,8 +32,8 @@ use Rattle.model.specs.declared.table.TrackCommand.{TrackCommand}
 use Rattle.model.specs.declared.table.TrackCommand.TheVariants.{FormatDrive, CheckTrack, FormatTrack, FormatBadTrack, AssignAlternate}
 use Rattle.model.specs.declared.table.SectorCommand.{SectorCommand}
 use Rattle.model.specs.declared.table.SectorCommand.TheVariants.{Read, Write}
-use Rattle.model.specs.declared.verdict.Verdict.{Verdict}
-use Rattle.model.specs.declared.verdict.Verdict.TheVariants.{Refused, Faulty, Passed}
+use Rattle.model.specs.Verdicts.{Verdict}
+use Rattle.model.specs.Verdicts.{Refused, Faulty, Passed}
 use Rattle.model.specs.Block.{block_of, is_copy, is_whole, copy_of, count_of, from_buffer, keeps}
 use Rattle.model.specs.Table.{row_for}
 use Rattle.model.specs.declared.verdict.View.{View}
@@ -381,15 +381,15 @@ with_parameters b p given m u (SectorWork w) = on_sectors b p given m u w
 
 unfoldable pub carried : Block → Setting → (given : List ℕ) → Machine → Disk → Command → Reply × Machine
 carried b setting given m u (Free w) = freely b given m u w
-carried b Invalid given m u (OnDisk w) = failing b 0x0A b.address 0 [] m
-carried b (Valid p) given m u (OnDisk w) = with_parameters b p given m u w
+carried b None given m u (OnDisk w) = failing b 0x0A b.address 0 [] m
+carried b (Some p) given m u (OnDisk w) = with_parameters b p given m u w
 carried b setting given m u Unknown = failing b 0x20 b.address 0 [] m
 -- Copy is two drives' command: it does not come here.
 carried b setting given m u Copy = failing b 0x20 b.address 0 [] m
 
 -- ---- The order of checks, then the command
 unfoldable pub setting_with : Medium → Option (List ℕ) → (len : ℕ) → Setting
-setting_with medium none len = Invalid
+setting_with medium none len = None
 setting_with medium (some config) len = setting_of medium config len
 
 unfoldable pub seen : Medium → Disk → View
@@ -435,9 +435,9 @@ copy_over k p q m =
     (with_disk k.to.drive w.disk (with_buffer (leaving w.sectors m.buffer) m))
 
 unfoldable pub copy_by : CopyBlock → (from to : Setting) → Machine → Reply × Machine
-copy_by k Invalid to m = failing k.from 0x0A k.from.address 0 [] m
-copy_by k (Valid p) Invalid m = failing_on k.to.drive k.from 0x0A k.to.address 0 [] m
-copy_by k (Valid p) (Valid q) m = copy_over k p q m
+copy_by k None to m = failing k.from 0x0A k.from.address 0 [] m
+copy_by k (Some p) None m = failing_on k.to.drive k.from 0x0A k.to.address 0 [] m
+copy_by k (Some p) (Some q) m = copy_over k p q m
 
 unfoldable pub ordered_copy : CopyBlock → Machine → Reply × Machine
 ordered_copy k m =

@@ -6,12 +6,12 @@ use Rattle.std.specs.Prelude.{ℕ, ◌<◌, ◌≡◌, true, List, length, set}
 use Rattle.geometry.specs.declared.params.Lba.{Lba}
 use Rattle.geometry.specs.declared.params.Track.{Track}
 use Rattle.geometry.specs.declared.params.Params.{Params}
-use Rattle.geometry.specs.declared.config.Setting.TheVariants.{Valid}
+use Rattle.std.specs.Prelude.{Some}
 use Rattle.geometry.specs.Params.{OnDrive, track_of, further}
 use Rattle.geometry.specs.Medium.{medium_of}
 use Rattle.geometry.specs.Config.{label_holds}
 use Rattle.interleave.specs.Layout.{layout_of}
-use Rattle.track.specs.declared.find.Sector.TheVariants.{Slot}
+use Rattle.track.specs.Find.{Slot}
 use Rattle.track.specs.Image.{first_id}
 use Rattle.sectors.specs.Transfer.{found}
 use Rattle.contents.specs.Content.{content_of}
@@ -33,7 +33,7 @@ use Rattle.model.specs.Claim.{Call, begin, engine_at_end}
 pub record Keeping (c : Controller) (block given area : List ℕ) (images : List (List ℕ)) (d : ℕ) (p : Params) : Type 0 where
   pub is : Is (OnDisk (TrackWork AssignAlternate)) d block (execute c block given area images).outcome.answer
   pub keep : keeps (block_of block) ≡ true
-  pub force : setting_in (medium_of d) (drive_at c d) (length (image_of d images)) ≡ Valid p
+  pub force : setting_in (medium_of d) (drive_at c d) (length (image_of d images)) ≡ Some p
   pub label : label_holds (medium_of d) (image_of d images) (drive_at c d).config ≡ true
 
 -- A is the track of the block's address, B that of the address given.
@@ -86,7 +86,7 @@ ReadsAsBefore =
     → (cut : List ℕ) → CutShort p block given (image_of d images) cut
     → let left = left_images d images cut in
     ((drive_at (restarted left) d).config ≡ (drive_at c d).config)
-    × (setting_in (medium_of d) (drive_at (restarted left) d) (length cut) ≡ Valid p)
+    × (setting_in (medium_of d) (drive_at (restarted left) d) (length cut) ≡ Some p)
     × ((read sent room : List ℕ) → ReadOutside read d p (second_track p given)
     → let before = execute c read sent room images in
     let after = execute (restarted left) read sent room left in

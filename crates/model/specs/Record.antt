@@ -4,15 +4,15 @@ use Rattle.base.specs.Pick.{pick}
 use Rattle.base.specs.Part.{splice}
 use Rattle.geometry.specs.declared.params.Lba.{Lba}
 use Rattle.geometry.specs.declared.medium.Medium.{Medium}
-use Rattle.geometry.specs.declared.config.Setting.{Setting}
-use Rattle.geometry.specs.declared.config.Setting.TheVariants.{Invalid}
+use Rattle.geometry.specs.Config.{Setting}
+use Rattle.std.specs.Prelude.{None}
 use Rattle.geometry.specs.Config.{setting_of}
 use Rattle.model.specs.declared.record.Drive.{Drive}
 use Rattle.model.specs.declared.record.Controller.{Controller}
 use Rattle.model.specs.declared.record.Answer.{Answer}
 use Rattle.model.specs.declared.record.Ending.{Ending}
-use Rattle.model.specs.declared.verdict.Verdict.{Verdict}
-use Rattle.model.specs.declared.verdict.Verdict.TheVariants.{Refused, Faulty, Passed}
+use Rattle.model.specs.Verdicts.{Verdict}
+use Rattle.model.specs.Verdicts.{Refused, Faulty, Passed}
 use Rattle.model.specs.Sense.{sense_of}
 
 -- A drive's entry without parameters, its sense zero.
@@ -27,7 +27,7 @@ sensed sense entry = record { sense = sense; config = entry.config; known = entr
 
 -- Parameters not valid with the image lent at a call count there as none.
 unfoldable pub setting_in : Medium → Drive → (image : ℕ) → Setting
-setting_in medium entry image = pick entry.known (setting_of medium entry.config image) Invalid
+setting_in medium entry image = pick entry.known (setting_of medium entry.config image) None
 
 -- ---- Answers
 -- Status, message and counts 0: with numbers 1, 2 and 3, and with number 0 the answer to Reset.

@@ -8,10 +8,10 @@ use Rattle.base.specs.Part.{part}
 use Rattle.geometry.specs.declared.params.Lba.{Lba}
 use Rattle.geometry.specs.declared.params.Track.{Track}
 use Rattle.geometry.specs.declared.params.Params.{Params}
-use Rattle.geometry.specs.declared.config.Setting.TheVariants.{Valid, Invalid}
+use Rattle.std.specs.Prelude.{Some, None}
 use Rattle.geometry.specs.Params.{OnDrive, image_length, track_of, further}
 use Rattle.geometry.specs.Medium.{medium_of}
-use Rattle.track.specs.declared.find.Sector.TheVariants.{Slot}
+use Rattle.track.specs.Find.{Slot}
 use Rattle.sectors.specs.Transfer.{begun, found, reading}
 use Rattle.contents.specs.Content.{Bytes, content_of}
 use Rattle.model.specs.declared.block.Block.{Block}
@@ -73,7 +73,7 @@ named d p block given r a =
 unfoldable pub NoOtherRecord : Type 0
 NoOtherRecord =
     (c : Controller) (block given area : List ℕ) (images : List (List ℕ)) (d : ℕ) (p : Params)
-    → setting_in (medium_of d) (drive_at c d) (length (image_of d images)) ≡ Valid p
+    → setting_in (medium_of d) (drive_at c d) (length (image_of d images)) ≡ Some p
     → let r = execute c block given area images in
     (a : Lba) → OnDrive p a → named d p block given r.outcome.answer a ≡ false
     → content_of p a (image_of d r.images) ≡ content_of p a (image_of d images)
@@ -82,7 +82,7 @@ NoOtherRecord =
 unfoldable pub NoneWithoutParameters : Type 0
 NoneWithoutParameters =
     (c : Controller) (block given area : List ℕ) (images : List (List ℕ)) (d : ℕ)
-    → setting_in (medium_of d) (drive_at c d) (length (image_of d images)) ≡ Invalid
+    → setting_in (medium_of d) (drive_at c d) (length (image_of d images)) ≡ None
     → image_of d (execute c block given area images).images ≡ image_of d images
 
 -- ---- What a Write counts as done reads as the data given, sector i of them at the i-th address.
@@ -91,7 +91,7 @@ WrittenReads =
     (c : Controller) (block given area : List ℕ) (images : List (List ℕ)) (p : Params)
     → let b = block_of block in
     length block ≡ 6 → (row_for b.opcode).command ≡ OnDisk (SectorWork Write)
-    → setting_in (medium_of b.drive) (drive_at c b.drive) (length (image_of b.drive images)) ≡ Valid p
+    → setting_in (medium_of b.drive) (drive_at c b.drive) (length (image_of b.drive images)) ≡ Some p
     → let r = execute c block given area images in
     (i : ℕ) → i < r.outcome.answer.sectors
     → content_of p (further b.address i) (image_of b.drive r.images) ≡ Bytes (part (i * p.size) p.size given)
@@ -104,7 +104,7 @@ GoodWrites =
     length block ≡ 6 → (row_for b.opcode).command ≡ OnDisk (SectorWork Write)
     → let r = execute c block given area images in
     is_good b.drive r.outcome.answer ≡ true
-    → (p : Params) × (setting_in (medium_of b.drive) (drive_at c b.drive) (length (image_of b.drive images)) ≡ Valid p)
+    → (p : Params) × (setting_in (medium_of b.drive) (drive_at c b.drive) (length (image_of b.drive images)) ≡ Some p)
     × (r.outcome.answer.sectors ≡ count_of b)
 
 -- ---- What a Copy counts as done reads as the bytes that a Read of its source handed over before it, run on, with zeros behind them.
@@ -113,8 +113,8 @@ CopiedReads =
     (c : Controller) (block given area : List ℕ) (images : List (List ℕ)) (p q : Params)
     → let k = copy_of block in
     is_whole block ≡ true → is_copy block ≡ true
-    → setting_in (medium_of k.from.drive) (drive_at c k.from.drive) (length (image_of k.from.drive images)) ≡ Valid p
-    → setting_in (medium_of k.to.drive) (drive_at c k.to.drive) (length (image_of k.to.drive images)) ≡ Valid q
+    → setting_in (medium_of k.from.drive) (drive_at c k.from.drive) (length (image_of k.from.drive images)) ≡ Some p
+    → setting_in (medium_of k.to.drive) (drive_at c k.to.drive) (length (image_of k.to.drive images)) ≡ Some q
     → let r = execute c block given area images in
     let source = (reading p (count_of k.from) k.from.address (begun (image_of k.from.drive images))).handed in
     (i : ℕ) → i < r.outcome.answer.sectors
@@ -130,8 +130,8 @@ GoodCopies =
     → let r = execute c block given area images in
     is_good k.from.drive r.outcome.answer ≡ true
     → (p : Params) × (q : Params)
-    × (setting_in (medium_of k.from.drive) (drive_at c k.from.drive) (length (image_of k.from.drive images)) ≡ Valid p)
-    × (setting_in (medium_of k.to.drive) (drive_at c k.to.drive) (length (image_of k.to.drive images)) ≡ Valid q)
+    × (setting_in (medium_of k.from.drive) (drive_at c k.from.drive) (length (image_of k.from.drive images)) ≡ Some p)
+    × (setting_in (medium_of k.to.drive) (drive_at c k.to.drive) (length (image_of k.to.drive images)) ≡ Some q)
     × ((reading p (count_of k.from) k.from.address (begun (image_of k.from.drive images))).done ≡ count_of k.from)
     × (r.outcome.answer.sectors * q.size ≡ count_of k.from * p.size)
 
@@ -144,8 +144,8 @@ ShortCopies =
     → let r = execute c block given area images in
     get_or (drive_at r.outcome.controller k.from.drive).sense 0 0 ≡ 0xA3
     → (p : Params) × (q : Params)
-    × (setting_in (medium_of k.from.drive) (drive_at c k.from.drive) (length (image_of k.from.drive images)) ≡ Valid p)
-    × (setting_in (medium_of k.to.drive) (drive_at c k.to.drive) (length (image_of k.to.drive images)) ≡ Valid q)
+    × (setting_in (medium_of k.from.drive) (drive_at c k.from.drive) (length (image_of k.from.drive images)) ≡ Some p)
+    × (setting_in (medium_of k.to.drive) (drive_at c k.to.drive) (length (image_of k.to.drive images)) ≡ Some q)
     × ((reading p (count_of k.from) k.from.address (begun (image_of k.from.drive images))).done ≡ count_of k.from)
     × (count_of k.from * p.size < r.outcome.answer.sectors * q.size)
     × (r.outcome.answer.sectors * q.size < count_of k.from * p.size + q.size)
@@ -182,5 +182,5 @@ PastStays =
     (c : Controller) (block given area : List ℕ) (images : List (List ℕ)) (d : ℕ)
     → let after = image_of d (execute c block given area images).images in
     (length after ≡ length (image_of d images))
-    × ((p : Params) → setting_in (medium_of d) (drive_at c d) (length (image_of d images)) ≡ Valid p
+    × ((p : Params) → setting_in (medium_of d) (drive_at c d) (length (image_of d images)) ≡ Some p
     → (at size : ℕ) → image_length p ≤ at → part at size after ≡ part at size (image_of d images))

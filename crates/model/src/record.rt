@@ -3,7 +3,7 @@
 #[derive(Clone, Copy)]
 pub struct Drive {
     pub sense: [u8; 4],
-    // in force where known
+    // in force where known; the flags stand beside their values, since C reads the record
     pub config: [u8; 10],
     pub known: bool,
     pub pending: bool,

@@ -1,7 +1,7 @@
 // What the checks see of a drive, which of them hit, and what they say of a command.
-use geometry::config::Setting;
+use codes::{Code, Refusal};
 use geometry::medium::Medium;
-use geometry::params::Lba;
+use geometry::params::{Lba, Params};
 
 // A drive as the checks see it.
 #[derive(Clone, Copy)]
@@ -10,7 +10,7 @@ pub struct View {
     // its image has at least 16 bytes
     pub present: bool,
     // the parameters in force, judged with the image lent
-    pub setting: Setting,
+    pub setting: Option<Params>,
     pub pending: bool,
 }
 
@@ -37,18 +37,17 @@ pub struct Hits {
     pub small: bool,
 }
 
+// Why a command is not carried out.
 #[derive(Clone, Copy)]
-pub enum Verdict {
-    // a refusal's number
-    Refused(u8),
-    // a sense code, and the address that goes with it
-    Faulty(u8, Lba),
-    Passed,
+pub enum Stop {
+    Refuse(Refusal),
+    // a code, and the address that goes with it
+    Fail(Code, Lba),
 }
 
-// What the checks of Copy say, and of which drive.
+// The same of a Copy: which of its drives it is said of.
 #[derive(Clone, Copy)]
-pub struct Judgement {
+pub struct NamedStop {
     pub named: u8,
-    pub verdict: Verdict,
+    pub stop: Stop,
 }

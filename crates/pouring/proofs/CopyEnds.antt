@@ -5,17 +5,21 @@ use Prim.Native.Nat.{ℕ, ◌+◌, ◌-◌, ◌*◌, ◌≤◌, ◌<◌}
 use native.Mathlib.Omega.{arith}
 use native.Mathlib.Nat.{mul-le-mul}
 use native.Mathlib.Decide.{ℕ_discrete}
-use borrow.Author.Tests.{eq-eqb, ne_eqb}
 use borrow.Rule.Slice.PartMut.{put_mid}
 use lib.ListN.{length, take, drop, replicate}
-use Rattle.base.proofs.Decide.{pick_true, pick-false}
+use Rattle.std.specs.Prelude.{Option, Some, None}
+use Rattle.codes.specs.declared.Code.{Code}
+use Rattle.codes.specs.Numbers.{number_of, code_number}
+use Rattle.codes.proofs.Faults.{code_some}
+use Rattle.copying.specs.Ends.{as_end}
+use Rattle.pouring.specs.Promises.{last_fault}
 use Rattle.geometry.specs.Params.{address_count, further}
 use Rattle.sectors.specs.declared.transfer.Done.{Done}
 use Rattle.sectors.specs.Transfer.{Transfer}
 use Rattle.contents.proofs.Laws.{writing_most}
 use Rattle.copying.specs.declared.route.Route.{Route}
 use Rattle.copying.specs.declared.route.Copied.{Copied}
-use Rattle.copying.specs.declared.route.End.TheVariants.{Going, TargetFault}
+use Rattle.copying.specs.Ends.{Going, TargetFault}
 use Rattle.copying.specs.Images.{image_of}
 use Rattle.copying.specs.Copying.{Copying, filled, completed}
 use Rattle.copying.proofs.Laws.{last_written, last_room, filled_long, Completion, completes, none_completed}
@@ -36,16 +40,16 @@ module _ (r : Route) (s : Progress) (scratch : List ℕ) (images : List (List �
   x last = standing s scratch images last
 
   -- ---- nothing waits
-  pub none_waits : s.held ≡ 0 → CompletedTo r s scratch images (record { read = s.read; done = s.done; end = s.end }) images
+  pub none_waits : s.held ≡ 0 → CompletedTo r s scratch images (record { read = s.read; done = s.done; fault = s.fault }) images
   none_waits z last =
       rw (none_completed r (x last) (ap (λ (i : ℕ). take i scratch) z)) (record { read = refl; done = refl; end = refl; left = refl })
 
   -- ---- bytes wait
   module _ (some : s.held ≡ 0 → ⊥) where
-    going : s.end ≡ Going
-    going = by (going_or_not s.end)
+    going : as_end s.fault ≡ Going
+    going = by (going_or_not (as_end s.fault))
       where
-        by : Dec (s.end ≡ Going) → s.end ≡ Going
+        by : Dec (as_end s.fault ≡ Going) → as_end s.fault ≡ Going
         by (yes e) = e
         by (no e) = absurd (some (u.none e))
 
@@ -98,7 +102,7 @@ module _ (r : Route) (s : Progress) (scratch : List ℕ) (images : List (List �
             completes r h.count (x last) u.fitting going (stands_even r h.count s scratch images u going last) (h.all going)
             (rw (held_long r h.count s scratch images u going) waits)
 
-        copied : (c : Copied) → c.read ≡ s.read → c.done ≡ s.done + target.sectors → ((last : List ℕ) → (completed r (x last)).end ≡ c.end)
+        copied : (c : Copied) → c.read ≡ s.read → c.done ≡ s.done + target.sectors → ((last : List ℕ) → (completed r (x last)).end ≡ as_end c.fault)
             → CompletedTo r s scratch images c left
         copied c er ed ee last =
             let k = completion last in
@@ -109,14 +113,11 @@ module _ (r : Route) (s : Progress) (scratch : List ℕ) (images : List (List �
               left = written.images ∙ sym k.images;
             }
 
+        by_fault : (fault : Option Code) → target.fault ≡ fault → (last : List ℕ) → (completed r (x last)).end ≡ as_end (Some (last_fault fault))
+        by_fault None z last = (completion last).short (sym written.code ∙ ap code_number z)
+        by_fault (Some code) z last =
+            let coded : number_of code ≡ W.code = sym (ap code_number z) ∙ written.code in
+            (completion last).target (λ e. code_some code (coded ∙ e)) ∙ ap TargetFault (sym coded)
+
         pub completed_to : (c : Copied) → c ≡ ended_by s target → CompletedTo r s scratch images c left
-        unfolding ended_by
-        completed_to c e = rw e (by (ℕ_discrete target.code 0))
-          where
-            by : Dec (target.code ≡ 0) → CompletedTo r s scratch images (ended_by s target) left
-            by (yes z) =
-                rw (pick_true _ _ _ (eq-eqb _ _ z))
-                (copied _ refl refl (λ last. (completion last).short (sym written.code ∙ z)))
-            by (no z) =
-                rw (pick-false _ _ _ (ne_eqb _ _ z))
-                (copied _ refl refl (λ last. (completion last).target (λ e'. z (written.code ∙ e')) ∙ ap TargetFault (sym written.code)))
+        completed_to c e = rw e (copied _ refl refl (by_fault target.fault refl))

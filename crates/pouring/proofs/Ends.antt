@@ -1,10 +1,9 @@
 -- Whether a copy goes on.
-use mathlib.Core.Path.{◌≡◌, refl, sym, ap, ◌∙◌}
+use mathlib.Core.Path.{◌≡◌, refl, sym, ap}
 use mathlib.Core.Bool.{Bool, true, false, true≢false}
-use Prim.Native.Nat.{ℕ, ◌≤◌, ◌<◌}
-use Rattle.copying.specs.declared.route.End.{End}
-use Rattle.copying.specs.declared.route.End.TheVariants.{Going, SourceFault, TargetFault, Short}
-use Rattle.pouring.specs.declared.turn.Progress.{Progress}
+use Prim.Native.Nat.{ℕ}
+use Rattle.copying.specs.Ends.{End}
+use Rattle.copying.specs.Ends.{Going, SourceFault, TargetFault, Short}
 
 is_going : End → Bool
 is_going Going = true
@@ -30,20 +29,3 @@ going_or_not Going = yes refl
 going_or_not (SourceFault code) = no (source_ended code)
 going_or_not (TargetFault code) = no (target_ended code)
 going_or_not Short = no short_ended
-
--- what `goes_on` promises where the copy has ended
-module _ (s : Progress) (n : ℕ) where
-  abbrev Over : Type 0
-  Over = (false ≡ true → (s.end ≡ Going) × (s.read < n)) × (false ≡ false → s.end ≡ Going → n ≤ s.read)
-
-  over : (s.end ≡ Going → ⊥) → Over
-  over none = (λ z. absurd (true≢false (sym z)), λ z e. absurd (none e))
-
-  pub over_source : (code : ℕ) → s.end ≡ SourceFault code → Over
-  over_source code e = over (λ z. source_ended code (sym e ∙ z))
-
-  pub over_target : (code : ℕ) → s.end ≡ TargetFault code → Over
-  over_target code e = over (λ z. target_ended code (sym e ∙ z))
-
-  pub over_short : s.end ≡ Short → Over
-  over_short e = over (λ z. short_ended (sym e ∙ z))

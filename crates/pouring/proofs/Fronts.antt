@@ -1,4 +1,4 @@
--- Bytes moved to the front, through some room.
+-- Bytes moved to the front.
 use mathlib.Core.Path.{◌≡◌, refl, sym, ap, ◌∙◌}
 use mathlib.Core.List.{List, ◌∷◌, ◌++◌, append_assoc}
 use Prim.Native.Nat.{ℕ, zero, suc, ◌+◌, ◌-◌, ◌≤◌}
@@ -6,22 +6,16 @@ use native.Mathlib.Omega.{arith}
 use lib.ListN.{length, take, drop, replicate, length-append, length-take, length-drop, length-replicate}
 use lib.Seq.{take_at, take-append-add, length-take-le}
 use borrow.Rule.Slice.PartMut.{put_mid}
+use Rattle.std.specs.List.{copy_within}
 use Rattle.base.specs.Part.{part, splice}
-use Rattle.base.proofs.Parts.{length_part, part_lent, splice_lent}
+use Rattle.base.proofs.Parts.{length_part, splice_lent}
 use Rattle.sectors.proofs.Laws.{front_lent, drop_take}
 
-pub room_long : (n start end : ℕ) (copied rest bytes : List ℕ) → n ≡ end - start → end ≤ length bytes → copied ≡ take (end - start) (drop start bytes)
-    → n ≤ length (copied ++ rest)
-room_long n start end copied rest bytes en most e =
-    let l : length copied ≡ end - start = ap length e ∙ simp (length-take, length-drop) (omega arith) in
-    omega (arith, l, en, length-append copied rest)
-
-pub moved_front : (n start end : ℕ) (copied rest bytes after : List ℕ) → n ≡ end - start → start ≤ end → end ≤ length bytes
-    → copied ≡ take (end - start) (drop start bytes) → after ≡ splice 0 (take (n - 0) (copied ++ rest)) bytes
+pub moved_front : (start end : ℕ) (bytes after : List ℕ) → start ≤ end → end ≤ length bytes → after ≡ copy_within bytes start end 0
     → after ≡ splice 0 (part start (end - start) bytes) bytes
-moved_front n start end copied rest bytes after en le most e h =
-    let l : length copied ≡ n - 0 = ap length e ∙ simp (length-take, length-drop) (omega arith) in
-    h ∙ ap (λ (l : List ℕ). splice 0 l bytes) (take_at copied rest (n - 0) l ∙ e ∙ part_lent start end (end - start) bytes (omega arith))
+unfolding splice part
+moved_front start end bytes after le most e =
+    e ∙ ap (λ (n : ℕ). take (end - start) (drop start bytes) ++ drop (0 + n) bytes) (sym (length_part start (end - start) bytes (omega arith)))
 
 -- ---- bytes put behind those that wait, and what is left of them moved to the front
 take_splice : (at : ℕ) (ys xs : List ℕ) → at ≤ length xs → take (at + length ys) (splice at ys xs) ≡ take at xs ++ ys

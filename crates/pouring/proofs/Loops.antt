@@ -5,10 +5,12 @@ use Prim.Native.Nat.{ℕ, zero, suc, ◌+◌, ◌-◌, ◌≤◌, ◌<◌}
 use native.Mathlib.Omega.{arith}
 use native.Mathlib.Nat.{zero-mul}
 use lib.ListN.{length}
+use Rattle.std.specs.Prelude.{None}
+use Rattle.copying.specs.Ends.{as_end}
 use Rattle.copying.specs.declared.route.Route.{Route}
 use Rattle.copying.specs.declared.route.Copied.{Copied}
-use Rattle.copying.specs.declared.route.End.{End}
-use Rattle.copying.specs.declared.route.End.TheVariants.{Going, SourceFault, TargetFault, Short}
+use Rattle.copying.specs.Ends.{End}
+use Rattle.copying.specs.Ends.{Going, SourceFault, TargetFault, Short}
 use Rattle.copying.specs.Copying.{Copying, copy_begun, unless_ended, copying, completed, copied}
 use Rattle.copying.proofs.Laws.{copying_more, on_going, on_same, on_self, none_more}
 use Rattle.pouring.specs.declared.turn.Progress.{Progress}
@@ -41,7 +43,7 @@ left_ended (TargetFault code) k ne = refl
 left_ended Short k ne = refl
 
 abbrev first : Progress
-first = record { read = 0; done = 0; held = 0; end = Going }
+first = record { read = 0; done = 0; held = 0; fault = None }
 
 module _ (r : Route) (n : ℕ) (images₀ : List (List ℕ)) where
   pub turning_none : (scratch : List ℕ) → RouteReady r n images₀ → length scratch ≡ scratch_length → Turning r n images₀ first scratch images₀
@@ -72,14 +74,14 @@ module _ (r : Route) (n : ℕ) (images₀ : List (List ℕ)) where
     whole_here = sym (ap (λ (c : Copying). completed r (unless_ended c (λ z. copying r (n - s.read) z))) w.stood.is) ∙ w.whole
 
     -- ---- another turn
-    module _ (going : s.end ≡ Going) (t : Progress) (scratched : List ℕ) (left : List (List ℕ)) (turn : TurnedTo r n s scratch images t scratched left) where
+    module _ (going : as_end s.fault ≡ Going) (t : Progress) (scratched : List ℕ) (left : List (List ℕ)) (turn : TurnedTo r n s scratch images t scratched left) where
       abbrev y : Copying
       y = copying r turn.count x
 
       stood : Stood y t scratched left
       stood = turn.on w.stood.last
 
-      ends : y.end ≡ t.end
+      ends : y.end ≡ as_end t.fault
       ends = ap (λ (c : Copying). c.end) stood.is
 
       pub turning_more : Turning r n images₀ t scratched left
@@ -99,17 +101,17 @@ module _ (r : Route) (n : ℕ) (images₀ : List (List ℕ)) where
                 ∙ whole_here;
           }
 
-      pub turning_less : s.read < n → turns_left t.end (n - t.read) < turns_left s.end (n - s.read)
-      turning_less l = by (going_or_not t.end)
+      pub turning_less : s.read < n → turns_left (as_end t.fault) (n - t.read) < turns_left (as_end s.fault) (n - s.read)
+      turning_less l = by (going_or_not (as_end t.fault))
         where
-          by : Dec (t.end ≡ Going) → turns_left t.end (n - t.read) < turns_left s.end (n - s.read)
+          by : Dec (as_end t.fault ≡ Going) → turns_left (as_end t.fault) (n - t.read) < turns_left (as_end s.fault) (n - s.read)
           by (yes e) =
-              rw (left_going t.end (n - t.read) e, left_going s.end (n - s.read) going)
+              rw (left_going (as_end t.fault) (n - t.read) e, left_going (as_end s.fault) (n - s.read) going)
               (omega (arith, turn.counted e, turn.some, l))
-          by (no e) = rw (left_ended t.end (n - t.read) e, left_going s.end (n - s.read) going) (omega arith)
+          by (no e) = rw (left_ended (as_end t.fault) (n - t.read) e, left_going (as_end s.fault) (n - s.read) going) (omega arith)
 
     -- ---- no turn more
-    module _ (over : s.end ≡ Going → n ≤ s.read) where
+    module _ (over : as_end s.fault ≡ Going → n ≤ s.read) where
       pub last_turn : NoTurnLeft r s scratch images
       last_turn = record { count = n; under = w.under; all = λ e. omega (arith, over e, w.under.most e) }
 

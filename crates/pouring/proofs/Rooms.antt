@@ -3,14 +3,12 @@ use mathlib.Core.Path.{◌≡◌, sym, ap, ◌∙◌}
 use mathlib.Core.List.{List}
 use Prim.Native.Nat.{ℕ, ◌+◌, ◌-◌, ◌*◌, ◌/◌, ◌≤◌, ◌<◌}
 use native.Mathlib.Omega.{arith}
-use native.Mathlib.Nat.{add-mul, mul_assoc, mul-le-mul, mul-le-mul_right, div-mul-le_self, div-add-mod', mod-lt}
+use native.Mathlib.Nat.{add-mul, mul_assoc, mul-le-mul, mul-le-mul_right, div-mul-le_self}
 use lib.ListN.{length, take}
 use lib.Seq.{length-take-le}
-use Rattle.geometry.specs.declared.params.Lba.{Lba}
-use Rattle.geometry.specs.Params.{address_count, further}
-use Rattle.geometry.proofs.Sizes.{sectors_most}
+use Rattle.copying.specs.Ends.{as_end}
 use Rattle.copying.specs.declared.route.Route.{Route}
-use Rattle.copying.specs.declared.route.End.TheVariants.{Going}
+use Rattle.copying.specs.Ends.{Going}
 use Rattle.copying.proofs.Laws.{Even}
 use Rattle.pouring.specs.declared.turn.Progress.{Progress}
 use Rattle.pouring.specs.Promises.{turn_most, scratch_length, standing, Underway}
@@ -48,7 +46,7 @@ some_bytes n size hn hs = omega (arith, times_some n size hs, hn)
 
 -- ---- the bounds of a turn
 module _ (r : Route) (n : ℕ) (s : Progress) (scratch : List ℕ) (images : List (List ℕ)) (u : Underway r n s scratch images)
-    (going : s.end ≡ Going) where
+    (going : as_end s.fault ≡ Going) where
   -- what waits is as long as it says
   pub held_long : length (take s.held scratch) ≡ s.held
   held_long = length-take-le s.held scratch (omega (arith, u.short, u.fitting.target_fits.within.size_most, u.scratch_long))
@@ -59,19 +57,12 @@ module _ (r : Route) (n : ℕ) (s : Progress) (scratch : List ℕ) (images : Lis
   pub stands_short : length (take s.held scratch) < r.q.size
   stands_short = rw held_long u.short
 
-  -- the source sectors that are left are on the drive
-  pub source_near : s.read < n → r.a.0 + s.read < 4294967296
-  source_near l = omega (arith, l, u.fitting.source_on, sectors_most r.p u.fitting.source_fits.within)
-
   module _ (m : ℕ) (hm : (1 ≤ m) × (m ≤ n - s.read) × (m * r.p.size ≤ turn_most)) (l : s.read < n) where
     pub in_turn : s.read + m ≤ n
     in_turn = omega (arith, hm.1, l)
 
     pub turn_fits : s.held + m * r.p.size ≤ scratch_length
     turn_fits = omega (arith, hm.2, u.short, u.fitting.target_fits.within.size_most)
-
-    pub on_source : (a : Lba) → a ≡ further r.a s.read → a.0 + m ≤ address_count r.p
-    on_source a e = rw e (omega (arith, in_turn, u.fitting.source_on))
 
     -- c of them are read
     module _ (c : ℕ) (lc : c ≤ m) where
@@ -97,10 +88,3 @@ module _ (r : Route) (n : ℕ) (s : Progress) (scratch : List ℕ) (images : Lis
 
         pub done_few : s.done + d ≤ 131072
         done_few = omega (arith, done_bytes, times_some (s.done + d) r.q.size u.fitting.target_some)
-
-      -- less than a sector is left
-      pub left_few : s.held + c * r.p.size - (s.held + c * r.p.size) / r.q.size * r.q.size ≤ 512
-      left_few =
-          let e = div-add-mod' (s.held + c * r.p.size) r.q.size in
-          let few = mod-lt (s.held + c * r.p.size) u.fitting.target_some in
-          omega (arith, e, few, u.fitting.target_fits.within.size_most)

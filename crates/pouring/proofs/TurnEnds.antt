@@ -4,14 +4,17 @@ use mathlib.Core.List.{List, []}
 use Prim.Native.Nat.{ℕ, suc, ◌+◌, ◌-◌, ◌*◌, ◌/◌, ◌≤◌, ◌<◌}
 use native.Mathlib.Omega.{arith}
 use native.Mathlib.Nat.{div-mul-le_self, mul-le-mul_right}
-use native.Mathlib.Decide.{ℕ_discrete}
-use borrow.Author.Tests.{eq-eqb, ne_eqb}
 use borrow.Rule.Slice.PartMut.{put_mid}
 use lib.ListN.{length, take, drop, length-append}
 use lib.Seq.{length-take-le}
+use Rattle.std.specs.Prelude.{Option, Some, None}
+use Rattle.codes.specs.declared.Code.{Code}
+use Rattle.codes.specs.Numbers.{number_of, code_number}
+use Rattle.codes.proofs.Faults.{code_some}
+use Rattle.copying.specs.Ends.{as_end}
+use Rattle.pouring.specs.Promises.{read_turn, written_turn}
 use Rattle.base.specs.Part.{part, splice}
 use Rattle.base.proofs.Parts.{length_part, length_splice}
-use Rattle.base.proofs.Decide.{pick_true, pick-false}
 use Rattle.geometry.specs.declared.params.Lba.{Lba}
 use Rattle.geometry.specs.Params.{address_count, further}
 use Rattle.sectors.specs.declared.transfer.Done.{Done}
@@ -20,7 +23,7 @@ use Rattle.sectors.specs.Promises.{HasRead}
 use Rattle.sectors.proofs.Laws.{Handed, reading_handed, front_lent}
 use Rattle.contents.proofs.Laws.{writing_most}
 use Rattle.copying.specs.declared.route.Route.{Route}
-use Rattle.copying.specs.declared.route.End.TheVariants.{Going, SourceFault, TargetFault}
+use Rattle.copying.specs.Ends.{Going, SourceFault, TargetFault}
 use Rattle.copying.specs.Images.{image_of}
 use Rattle.copying.specs.Copying.{Copying, copying}
 use Rattle.copying.specs.Listwise.{filled_by}
@@ -32,7 +35,7 @@ use Rattle.pouring.proofs.Fronts.{put_behind, left_over}
 use Rattle.pouring.proofs.Rooms.{held_long, stands_even, stands_short, in_turn, turn_fits, read_fits}
 
 module _ (r : Route) (n : ℕ) (s : Progress) (scratch : List ℕ) (images : List (List ℕ)) (u : Underway r n s scratch images)
-    (going : s.end ≡ Going) (l : s.read < n) (m : ℕ) (hm : (1 ≤ m) × (m ≤ n - s.read) × (m * r.p.size ≤ turn_most)) where
+    (going : as_end s.fault ≡ Going) (l : s.read < n) (m : ℕ) (hm : (1 ≤ m) × (m ≤ n - s.read) × (m * r.p.size ≤ turn_most)) where
   abbrev x : List ℕ → Copying
   x last = standing s scratch images last
 
@@ -142,9 +145,9 @@ module _ (r : Route) (n : ℕ) (s : Progress) (scratch : List ℕ) (images : Lis
             ∙ ap (drop used) front ∙ ap (λ (i : ℕ). drop (i * size) bytes) full
 
         -- the turn has come to t
-        stood : (t : Progress) → t.held < size → ((t.end ≡ Going → ⊥) → t.held ≡ 0)
-            → (t.end ≡ Going → (t.read ≡ s.read + m) × (t.read * r.p.size ≡ t.done * size + t.held)) → t.done ≡ s.done + target.sectors
-            → ((last : List ℕ) → ((copying r m (x last)).read ≡ t.read) × ((copying r m (x last)).end ≡ t.end) × ((copying r m (x last)).rest ≡ take t.held scratched))
+        stood : (t : Progress) → t.held < size → ((as_end t.fault ≡ Going → ⊥) → t.held ≡ 0)
+            → (as_end t.fault ≡ Going → (t.read ≡ s.read + m) × (t.read * r.p.size ≡ t.done * size + t.held)) → t.done ≡ s.done + target.sectors
+            → ((last : List ℕ) → ((copying r m (x last)).read ≡ t.read) × ((copying r m (x last)).end ≡ as_end t.fault) × ((copying r m (x last)).rest ≡ take t.held scratched))
             → TurnedTo r n s scratch images t scratched left
         stood t short none even done fields =
             let images_are : (last : List ℕ) → (copying r m (x last)).images ≡ left = λ last. (turn_of last).images ∙ sym written.images in
@@ -187,39 +190,38 @@ module _ (r : Route) (n : ℕ) (s : Progress) (scratch : List ℕ) (images : Lis
         To t = TurnedTo r n s scratch images t scratched left
 
         -- a destination fault
-        at_target : (target.code ≡ 0 → ⊥)
-            → To (record { read = filled_by (s.done + target.sectors + 1) size r.p.size; done = s.done + target.sectors; held = 0; end = TargetFault target.code })
-        at_target failed =
-            stood _ u.fitting.target_some (λ z. refl) (λ z. absurd (target_ended target.code z)) refl
+        at_target : (code : Code) → target.fault ≡ Some code → To (written_turn r s source target (filled - used) (Some code))
+        at_target code failed =
+            let coded : number_of code ≡ W.code = sym (ap code_number failed) ∙ written.code in
+            stood _ u.fitting.target_some (λ z. refl) (λ z. absurd (target_ended (number_of code) z)) refl
             (λ last.
-            let t = (turn_of last).target (λ z. failed (written.code ∙ z)) in
+            let t = (turn_of last).target (λ z. code_some code (coded ∙ z)) in
             let dones : suc (copying r m (x last)).done ≡ s.done + target.sectors + 1 = omega (arith, (turn_of last).done, written.sectors) in (
               t.2 ∙ ap (λ (i : ℕ). filled_by i size r.p.size) dones,
-              t.0 ∙ ap TargetFault (sym written.code),
+              t.0 ∙ ap TargetFault (sym coded),
               t.1,
             ))
 
-        module _ (good : target.code ≡ 0) where
+        module _ (good : target.fault ≡ None) where
           wrote_all : W.code ≡ 0
-          wrote_all = sym written.code ∙ good
+          wrote_all = sym written.code ∙ ap code_number good
 
           -- a source fault
-          at_source : (source.code ≡ 0 → ⊥)
-              → To (record { read = s.read + source.sectors; done = s.done + target.sectors; held = 0; end = SourceFault source.code })
-          at_source failed =
-              stood _ u.fitting.target_some (λ z. refl) (λ z. absurd (source_ended source.code z)) refl
+          at_source : (code : Code) → source.fault ≡ Some code → To (read_turn s source target (filled - used) (Some code))
+          at_source code failed =
+              let coded : number_of code ≡ S.code = sym (ap code_number failed) ∙ is.code in
+              stood _ u.fitting.target_some (λ z. refl) (λ z. absurd (source_ended (number_of code) z)) refl
               (λ last.
-              let t = (turn_of last).source wrote_all (λ z. failed (is.code ∙ z)) in (
+              let t = (turn_of last).source wrote_all (λ z. code_some code (coded ∙ z)) in (
                 t.2 ∙ omega (arith, is.sectors),
-                t.0 ∙ ap SourceFault (sym is.code),
+                t.0 ∙ ap SourceFault (sym coded),
                 t.1,
               ))
 
           -- none
-          at_none : source.code ≡ 0
-              → To (record { read = s.read + source.sectors; done = s.done + target.sectors; held = filled - used; end = Going })
+          at_none : source.fault ≡ None → To (read_turn s source target (filled - used) None)
           at_none fine =
-              let read_all_lem : S.code ≡ 0 = sym is.code ∙ fine in
+              let read_all_lem : S.code ≡ 0 = sym is.code ∙ ap code_number fine in
               let whole_turn : source.sectors ≡ m = is.sectors ∙ handed.all read_all_lem in
               let t = (turn_of []).even wrote_all read_all_lem in
               let y = copying r m (x []) in
@@ -233,14 +235,13 @@ module _ (r : Route) (n : ℕ) (s : Progress) (scratch : List ℕ) (images : Lis
               (λ last.
               let w = (turn_of last).whole wrote_all read_all_lem in (w.2 ∙ omega (arith, whole_turn), w.0, w.1 ∙ sym rest_is))
 
-        pub turned_to : (t : Progress) → t ≡ after_turn r s source target (filled - used) → To t
-        unfolding after_turn
-        turned_to t e = rw e (by (ℕ_discrete target.code 0))
-          where
-            good : target.code ≡ 0 → Dec (source.code ≡ 0) → To (after_turn r s source target (filled - used))
-            good z (yes y) = rw (pick_true _ _ _ (eq-eqb _ _ z), pick_true _ _ _ (eq-eqb _ _ y)) (at_none z y)
-            good z (no y) = rw (pick_true _ _ _ (eq-eqb _ _ z), pick-false _ _ _ (ne_eqb _ _ y)) (at_source z y)
+          by_source : (fault : Option Code) → source.fault ≡ fault → To (read_turn s source target (filled - used) fault)
+          by_source None e = at_none e
+          by_source (Some code) e = at_source code e
 
-            by : Dec (target.code ≡ 0) → To (after_turn r s source target (filled - used))
-            by (yes z) = good z (ℕ_discrete source.code 0)
-            by (no z) = rw (pick-false _ _ _ (ne_eqb _ _ z)) (at_target z)
+        by_target : (fault : Option Code) → target.fault ≡ fault → To (written_turn r s source target (filled - used) fault)
+        by_target None e = by_source e source.fault refl
+        by_target (Some code) e = at_target code e
+
+        pub turned_to : (t : Progress) → t ≡ after_turn r s source target (filled - used) → To t
+        turned_to t e = rw e (by_target target.fault refl)

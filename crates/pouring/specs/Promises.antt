@@ -1,13 +1,16 @@
 -- What copying on the four images promises, and what its parts promise each other.
-use Rattle.std.specs.Prelude.{ℕ, zero, suc, ◌+◌, ◌*◌, ◌≤◌, ◌<◌, ◌≡◌, List, [], length, take, set, eqb}
-use Rattle.base.specs.Pick.{pick}
+use Rattle.std.specs.Prelude.{ℕ, zero, suc, ◌+◌, ◌*◌, ◌≤◌, ◌<◌, ◌≡◌, List, [], length, take, set, Option, Some, None}
+use Rattle.codes.specs.declared.Code.{Code}
+use Rattle.codes.specs.Numbers.{code_number}
 use Rattle.base.specs.Part.{splice}
 use Rattle.geometry.specs.Params.{further}
 use Rattle.sectors.specs.declared.transfer.Done.{Done}
 use Rattle.sectors.specs.Transfer.{Transfer, begun, reading, writing}
 use Rattle.copying.specs.declared.route.Route.{Route}
 use Rattle.copying.specs.declared.route.Copied.{Copied}
-use Rattle.copying.specs.declared.route.End.TheVariants.{Going, SourceFault, TargetFault, Short}
+use Rattle.copying.specs.declared.route.CopyFault.{CopyFault}
+use Rattle.copying.specs.declared.route.CopyFault.TheVariants.{AtSource, AtTarget, PartlyFilled}
+use Rattle.copying.specs.Ends.{Going, as_end}
 use Rattle.copying.specs.Images.{image_of}
 use Rattle.copying.specs.Copying.{Copying, copying, completed}
 use Rattle.copying.specs.Listwise.{filled_by, Fitting}
@@ -21,16 +24,11 @@ pub record RouteReady (r : Route) (n : ℕ) (images : List (List ℕ)) : Type 0 
   pub most : n ≤ 256
   pub fitting : Fitting r n images
 
--- And a buffer of 512 bytes.
-pub record CopyReady (r : Route) (n : ℕ) (images : List (List ℕ)) (buffer : List ℕ) : Type 0 where
-  pub route : RouteReady r n images
-  pub whole : length buffer ≡ 512
-
 -- How far it came and why it ended, the front of the buffer, and every byte of the images: as the copy x says.
 pub record CopiedBy (x : Copying) (copied : Copied) (before after : List ℕ) (images : List (List ℕ)) : Type 0 where
   pub read : copied.read ≡ x.read
   pub done : copied.done ≡ x.done
-  pub end : copied.end ≡ x.end
+  pub end : as_end copied.fault ≡ x.end
   pub front : after ≡ splice 0 x.last before
   pub left : images ≡ x.images
 
@@ -38,14 +36,14 @@ pub record CopiedBy (x : Copying) (copied : Copied) (before after : List ℕ) (i
 pub record WentAs (x : Copying) (copied : Copied) (images : List (List ℕ)) : Type 0 where
   pub read : copied.read ≡ x.read
   pub done : copied.done ≡ x.done
-  pub end : copied.end ≡ x.end
+  pub end : as_end copied.fault ≡ x.end
   pub left : images ≡ x.images
 
 -- ---- sectors of one of the images
 -- How far it came and why it ended, and the images, of which one is changed: as the transfer x says.
 pub record WrittenOn (drive : ℕ) (x : Transfer) (done : Done) (before after : List (List ℕ)) : Type 0 where
   pub sectors : done.sectors ≡ x.done
-  pub code : done.code ≡ x.code
+  pub code : code_number done.fault ≡ x.code
   pub images : after ≡ set before drive x.image
 
 -- n destination sectors behind `done`
@@ -70,7 +68,7 @@ scratch_length = turn_most + 512
 -- the Copy that stands here, where the last sector written was `last`
 abbrev pub standing : (s : Progress) → (scratch : List ℕ) → (images : List (List ℕ)) → (last : List ℕ) → Copying
 standing s scratch images last =
-    record { read = s.read; done = s.done; rest = take s.held scratch; last = last; images = images; end = s.end }
+    record { read = s.read; done = s.done; rest = take s.held scratch; last = last; images = images; end = as_end s.fault }
 
 -- A copy of n source sectors can go on from here: every byte read is written or waits, and less than a sector waits.
 pub record Underway (r : Route) (n : ℕ) (s : Progress) (scratch : List ℕ) (images : List (List ℕ)) : Type 0 where
@@ -78,25 +76,30 @@ pub record Underway (r : Route) (n : ℕ) (s : Progress) (scratch : List ℕ) (i
   pub target_there : r.target < 4
   pub few : n ≤ 256
   pub fitting : Fitting r n images
-  pub most : s.end ≡ Going → s.read ≤ n
-  pub even : s.end ≡ Going → s.read * r.p.size ≡ s.done * r.q.size + s.held
+  pub most : as_end s.fault ≡ Going → s.read ≤ n
+  pub even : as_end s.fault ≡ Going → s.read * r.p.size ≡ s.done * r.q.size + s.held
   pub short : s.held < r.q.size
-  pub none : (s.end ≡ Going → ⊥) → s.held ≡ 0
+  pub none : (as_end s.fault ≡ Going → ⊥) → s.held ≡ 0
   pub scratch_long : length scratch ≡ scratch_length
 
 -- how far a turn came, by its Read and its Write, with `held` bytes left
-unfoldable pub after_turn : Route → Progress → (source target : Done) → (held : ℕ) → Progress
-after_turn r s source target held =
-    pick (eqb target.code 0)
-    (pick (eqb source.code 0)
-    (record { read = s.read + source.sectors; done = s.done + target.sectors; held = held; end = Going })
-    (record { read = s.read + source.sectors; done = s.done + target.sectors; held = 0; end = SourceFault source.code }))
-    (record {
-      read = filled_by (s.done + target.sectors + 1) r.q.size r.p.size;
-      done = s.done + target.sectors;
-      held = 0;
-      end = TargetFault target.code;
-    })
+abbrev pub read_turn : Progress → (source target : Done) → (held : ℕ) → Option Code → Progress
+read_turn s source target held None =
+    record { read = s.read + source.sectors; done = s.done + target.sectors; held = held; fault = None }
+read_turn s source target held (Some code) =
+    record { read = s.read + source.sectors; done = s.done + target.sectors; held = 0; fault = Some (AtSource code) }
+
+abbrev pub written_turn : Route → Progress → (source target : Done) → (held : ℕ) → Option Code → Progress
+written_turn r s source target held None = read_turn s source target held source.fault
+written_turn r s source target held (Some code) = record {
+  read = filled_by (s.done + target.sectors + 1) r.q.size r.p.size;
+  done = s.done + target.sectors;
+  held = 0;
+  fault = Some (AtTarget code);
+}
+
+abbrev pub after_turn : Route → Progress → (source target : Done) → (held : ℕ) → Progress
+after_turn r s source target held = written_turn r s source target held target.fault
 
 -- the Copy y stands here, whatever it wrote last
 pub record Stood (y : Copying) (t : Progress) (scratch : List ℕ) (images : List (List ℕ)) : Type 0 where
@@ -109,22 +112,24 @@ pub record TurnedTo (r : Route) (n : ℕ) (s : Progress) (scratch : List ℕ) (i
   pub count : ℕ
   pub some : 1 ≤ count
   pub most : s.read + count ≤ n
-  pub counted : t.end ≡ Going → t.read ≡ s.read + count
+  pub counted : as_end t.fault ≡ Going → t.read ≡ s.read + count
   pub under : Underway r n t scratched left
   pub on : (last : List ℕ) → Stood (copying r count (standing s scratch images last)) t scratched left
 
 -- ---- the end
 -- by the Write of the last sector
-unfoldable pub ended_by : Progress → (target : Done) → Copied
-ended_by s target =
-    pick (eqb target.code 0) (record { read = s.read; done = s.done + target.sectors; end = Short })
-    (record { read = s.read; done = s.done + target.sectors; end = TargetFault target.code })
+abbrev pub last_fault : Option Code → CopyFault
+last_fault None = PartlyFilled
+last_fault (Some code) = AtTarget code
+
+abbrev pub ended_by : Progress → (target : Done) → Copied
+ended_by s target = record { read = s.read; done = s.done + target.sectors; fault = Some (last_fault target.fault) }
 
 -- the copy has ended, or all its source sectors are read
 pub record NoTurnLeft (r : Route) (s : Progress) (scratch : List ℕ) (images : List (List ℕ)) : Type 0 where
   pub count : ℕ
   pub under : Underway r count s scratch images
-  pub all : s.end ≡ Going → s.read ≡ count
+  pub all : as_end s.fault ≡ Going → s.read ≡ count
 
 -- The copy is complete, whatever was written last.
 abbrev pub CompletedTo : Route → Progress → (scratch : List ℕ) → (images : List (List ℕ)) → Copied → (left : List (List ℕ)) → Type 0

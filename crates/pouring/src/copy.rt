@@ -1,27 +1,20 @@
 // Copy Blocks, turn after turn; the bytes that wait in the end are completed with zeros.
 ghost use Rattle.std.specs.Prelude.{◌≡◌, true, false, ◌+◌, ◌≤◌, ◌<◌, length};
-ghost use Rattle.copying.specs.declared.route.End.TheVariants.{Going};
-ghost use Rattle.copying.specs.Images.{images_of};
+ghost use Rattle.copying.specs.Ends.{Going, as_end};
 ghost use Rattle.copying.specs.Copying.{copied};
-ghost use Rattle.pouring.specs.Promises.{RouteReady, CopyReady, CopiedBy, WentAs, scratch_length, ended_by, NoTurnLeft, CompletedTo};
+ghost use Rattle.pouring.specs.Lent.{lent, SameLent};
+ghost use Rattle.pouring.specs.Promises.{RouteReady, CopiedBy, WentAs, scratch_length, ended_by, NoTurnLeft, CompletedTo};
 
-use crate::images::{keep_done, store_sectors};
+use crate::images::{Images, keep_done, store_sectors};
 use crate::turn::{Progress, SCRATCH, turn};
-use base::bytes::set_bytes;
-use copying::route::{Copied, End, Route};
+use copying::route::{Copied, CopyFault, Route};
 use sectors::transfer::Done;
 
 // Whether there is another turn.
 fn goes_on(s: Progress, n: usize) -> bool
-    ensures { (result ≡ true → (s.end ≡ Going) × (s.read < n)) × (result ≡ false → s.end ≡ Going → n ≤ s.read) }
+    ensures { (result ≡ true → (as_end s.fault ≡ Going) × (s.read < n)) × (result ≡ false → as_end s.fault ≡ Going → n ≤ s.read) }
 {
-    let end = s.end;
-    match end {
-        End::Going => s.read < n,
-        End::SourceFault(_code) => false,
-        End::TargetFault(_code) => false,
-        End::Short => false,
-    }
+    s.fault.is_none() && s.read < n
 }
 
 // What the last sector's Write comes to.
@@ -29,110 +22,63 @@ fn ended_by(s: Progress, target: Done) -> Copied
     requires { s.done + target.sectors ≤ 131073 }
     ensures { result ≡ ended_by s target }
 {
-    let done = s.done + target.sectors;
-    if target.code != 0 {
-        return Copied {
-            read: s.read,
-            done: done,
-            end: End::TargetFault(target.code),
-        };
-    }
+    let fault = match target.fault {
+        None => CopyFault::PartlyFilled,
+        Some(code) => CopyFault::AtTarget(code),
+    };
     Copied {
         read: s.read,
-        done: done,
-        end: End::Short,
+        done: s.done + target.sectors,
+        fault: Some(fault),
     }
 }
 
 // The end of a copy: bytes that wait are a last sector, with zeros behind them.
-fn complete(
-    r: Route,
-    s: Progress,
-    scratch: &mut [u8],
-    image0: &mut [u8],
-    image1: &mut [u8],
-    image2: &mut [u8],
-    image3: &mut [u8],
-) -> Copied
-    requires { NoTurnLeft r s scratch.old (images_of image0.old image1.old image2.old image3.old) }
-    ensures { CompletedTo r s scratch.old
-        (images_of image0.old image1.old image2.old image3.old)
-        result (images_of image0.new image1.new image2.new image3.new) }
+fn complete(r: Route, s: Progress, scratch: &mut [u8], images: &mut Images) -> Copied
+    requires { NoTurnLeft r s scratch.old (lent images.old) }
+    ensures completed { CompletedTo r s scratch.old (lent images.old) result (lent images.new) }
+    ensures same { SameLent images.old images.new }
 {
     let held = s.held;
     if held == 0 {
-        let end = s.end;
         return Copied {
             read: s.read,
             done: s.done,
-            end: end,
+            fault: s.fault,
         };
     }
     let size = r.q.size;
-    set_bytes(&mut scratch[held..size], 0);
-    let target = store_sectors(
-        r,
-        s.done,
-        1,
-        &scratch[0..size],
-        image0,
-        image1,
-        image2,
-        image3,
-    );
+    scratch[held..size].fill(0);
+    let target = store_sectors(r, s.done, 1, &scratch[0..size], images);
     ended_by(s, target)
 }
 
 // Turns as long as it goes on, on lent scratch.
-fn copy_through(
-    r: Route,
-    n: usize,
-    scratch: &mut [u8],
-    image0: &mut [u8],
-    image1: &mut [u8],
-    image2: &mut [u8],
-    image3: &mut [u8],
-) -> Copied
-    requires { RouteReady r n (images_of image0.old image1.old image2.old image3.old) × (length scratch.old ≡ scratch_length) }
-    ensures { WentAs (copied r n (images_of image0.old image1.old image2.old image3.old)) result
-        (images_of image0.new image1.new image2.new image3.new) }
+fn copy_through(r: Route, n: usize, scratch: &mut [u8], images: &mut Images) -> Copied
+    requires { RouteReady r n (lent images.old) × (length scratch.old ≡ scratch_length) }
+    ensures went { WentAs (copied r n (lent images.old)) result (lent images.new) }
+    ensures same { SameLent images.old images.new }
 {
     let mut s = Progress {
         read: 0,
         done: 0,
         held: 0,
-        end: End::Going,
+        fault: None,
     };
     while goes_on(s, n) {
-        s = turn(r, n, s, scratch, image0, image1, image2, image3);
+        s = turn(r, n, s, scratch, images);
     }
-    complete(r, s, scratch, image0, image1, image2, image3)
+    complete(r, s, scratch, images)
 }
 
 // n source sectors along a route, on the four images; the last sector written is at the buffer's front.
-pub fn copy_sectors(
-    r: Route,
-    n: usize,
-    buffer: &mut [u8],
-    image0: &mut [u8],
-    image1: &mut [u8],
-    image2: &mut [u8],
-    image3: &mut [u8],
-) -> Copied
-    requires { CopyReady r n (images_of image0.old image1.old image2.old image3.old) buffer.old }
-    ensures { CopiedBy (copied r n (images_of image0.old image1.old image2.old image3.old)) result
-        buffer.old buffer.new (images_of image0.new image1.new image2.new image3.new) }
+pub fn copy_sectors(r: Route, n: usize, buffer: &mut [u8; 512], images: &mut Images) -> Copied
+    requires { RouteReady r n (lent images.old) }
+    ensures copied { CopiedBy (copied r n (lent images.old)) result buffer.old buffer.new (lent images.new) }
+    ensures same { SameLent images.old images.new }
 {
     let mut scratch = [0u8; SCRATCH];
-    let copied = copy_through(
-        r,
-        n,
-        &mut scratch[0..SCRATCH],
-        image0,
-        image1,
-        image2,
-        image3,
-    );
-    keep_done(r, copied.done, buffer, image0, image1, image2, image3);
+    let copied = copy_through(r, n, &mut scratch[0..SCRATCH], images);
+    keep_done(r, copied.done, buffer, images);
     copied
 }

@@ -1,11 +1,12 @@
-// Sectors of one of four lent images, read and written.
-ghost use Rattle.std.specs.Prelude.{◌≡◌, ◌+◌, ◌*◌, ◌≤◌, ◌<◌, length};
+// The four images that a call is lent, and sectors of one of them, read and written.
+ghost use Rattle.std.specs.Prelude.{◌≡◌, ◌+◌, ◌*◌, ◌≤◌, ◌<◌, length, map};
 ghost use Rattle.base.specs.Part.{splice};
 ghost use Rattle.geometry.specs.Params.{address_count};
 ghost use Rattle.track.specs.Image.{Fits};
 ghost use Rattle.sectors.specs.Transfer.{begun, writing};
 ghost use Rattle.sectors.specs.Promises.{HasRead};
-ghost use Rattle.copying.specs.Images.{images_of, image_of};
+ghost use Rattle.copying.specs.Images.{image_of};
+ghost use Rattle.pouring.specs.Lent.{lent, SameLent};
 ghost use Rattle.pouring.specs.Promises.{WrittenOn, StoredBy, last_read};
 
 use copying::route::Route;
@@ -14,128 +15,84 @@ use sectors::read::read_sectors;
 use sectors::transfer::Done;
 use sectors::write::write_sectors;
 
-// n sectors of a drive, from address a on, to their places.
-pub fn read_on(
-    drive: u8,
-    p: Params,
-    a: Lba,
-    n: usize,
-    places: &mut [u8],
-    image0: &[u8],
-    image1: &[u8],
-    image2: &[u8],
-    image3: &[u8],
-) -> Done
-    requires { (drive < 4) × Fits p (image_of drive (images_of image0.now image1.now image2.now image3.now))
-        × (a.0 + n ≤ address_count p) × (n * p.size ≤ length places.old) }
-    ensures { HasRead p n a (image_of drive (images_of image0.now image1.now image2.now image3.now))
-        result places.old places.new }
-{
-    if drive == 0 {
-        return read_sectors(image0, p, a, n, places);
-    }
-    if drive == 1 {
-        return read_sectors(image1, p, a, n, places);
-    }
-    if drive == 2 {
-        return read_sectors(image2, p, a, n, places);
-    }
-    read_sectors(image3, p, a, n, places)
+// Drive 0's image, and so on. Four fields and no array: an array of `&mut [u8]` cannot be built yet (docs/DECISIONS.md, D44).
+#[derive(Drop)]
+pub struct Images<'a> {
+    pub image0: &'a mut [u8],
+    pub image1: &'a mut [u8],
+    pub image2: &'a mut [u8],
+    pub image3: &'a mut [u8],
 }
 
-// n sectors of a drive, from address a on, from the data given.
-pub fn write_on(
-    drive: u8,
-    p: Params,
-    a: Lba,
-    n: usize,
-    given: &[u8],
-    image0: &mut [u8],
-    image1: &mut [u8],
-    image2: &mut [u8],
-    image3: &mut [u8],
-) -> Done
-    requires { (drive < 4) × Fits p (image_of drive (images_of image0.old image1.old image2.old image3.old))
-        × (a.0 + n ≤ address_count p) × (n * p.size ≤ length given.now) }
-    ensures { WrittenOn drive
-        (writing p n a given.now
-        (begun (image_of drive (images_of image0.old image1.old image2.old image3.old))))
-        result (images_of image0.old image1.old image2.old image3.old)
-        (images_of image0.new image1.new image2.new image3.new) }
-{
-    if drive == 0 {
-        return write_sectors(image0, p, a, n, given);
+impl Images<'_> {
+    // A drive's image, to be read.
+    pub fn of(&self, drive: u8) -> &[u8]
+        requires { drive < 4 }
+        ensures { result.now ≡ image_of drive (lent self.now) }
+    {
+        match drive {
+            0 => &*self.image0,
+            1 => &*self.image1,
+            2 => &*self.image2,
+            _ => &*self.image3,
+        }
     }
-    if drive == 1 {
-        return write_sectors(image1, p, a, n, given);
+
+    // All four, to be read.
+    pub fn shared(&self) -> [&[u8]; 4]
+        ensures { map (λ image. image.now) result ≡ lent self.now }
+    {
+        [&*self.image0, &*self.image1, &*self.image2, &*self.image3]
     }
-    if drive == 2 {
-        return write_sectors(image2, p, a, n, given);
+
+    // n sectors of a drive, from address a on, to their places.
+    pub fn read(&self, drive: u8, p: Params, a: Lba, n: usize, places: &mut [u8]) -> Done
+        requires { (drive < 4) × Fits p (image_of drive (lent self.now))
+            × (a.0 + n ≤ address_count p) × (n * p.size ≤ length places.old) }
+        ensures { HasRead p n a (image_of drive (lent self.now)) result places.old places.new }
+    {
+        read_sectors(self.of(drive), p, a, n, places)
     }
-    write_sectors(image3, p, a, n, given)
+
+    // n sectors of a drive, from address a on, from the data given. By four calls: a `&mut` to one of four is not returned yet (D44).
+    pub fn write(&mut self, drive: u8, p: Params, a: Lba, n: usize, given: &[u8]) -> Done
+        requires { (drive < 4) × Fits p (image_of drive (lent self.old))
+            × (a.0 + n ≤ address_count p) × (n * p.size ≤ length given.now) }
+        ensures written { WrittenOn drive
+            (writing p n a given.now (begun (image_of drive (lent self.old))))
+            result (lent self.old) (lent self.new) }
+        ensures same { SameLent self.old self.new }
+    {
+        match drive {
+            0 => write_sectors(self.image0, p, a, n, given),
+            1 => write_sectors(self.image1, p, a, n, given),
+            2 => write_sectors(self.image2, p, a, n, given),
+            _ => write_sectors(self.image3, p, a, n, given),
+        }
+    }
 }
 
 // n destination sectors behind those done.
-pub fn store_sectors(
-    r: Route,
-    done: usize,
-    n: usize,
-    given: &[u8],
-    image0: &mut [u8],
-    image1: &mut [u8],
-    image2: &mut [u8],
-    image3: &mut [u8],
-) -> Done
-    requires { (r.target < 4) × Fits r.q (image_of r.target (images_of image0.old image1.old image2.old image3.old))
+pub fn store_sectors(r: Route, done: usize, n: usize, given: &[u8], images: &mut Images) -> Done
+    requires { (r.target < 4) × Fits r.q (image_of r.target (lent images.old))
         × (r.b.0 + done + n ≤ address_count r.q) × (n * r.q.size ≤ length given.now) }
-    ensures { StoredBy r done n given.now
-        (images_of image0.old image1.old image2.old image3.old)
-        result (images_of image0.new image1.new image2.new image3.new) }
+    ensures stored { StoredBy r done n given.now (lent images.old) result (lent images.new) }
+    ensures same { SameLent images.old images.new }
 {
     let b = r.b;
-    write_on(
-        r.target,
-        r.q,
-        b.further(done),
-        n,
-        given,
-        image0,
-        image1,
-        image2,
-        image3,
-    )
+    images.write(r.target, r.q, b.further(done), n, given)
 }
 
 // The last destination sector done, as it reads now, goes to the buffer's front.
-pub fn keep_done(
-    r: Route,
-    done: usize,
-    buffer: &mut [u8],
-    image0: &[u8],
-    image1: &[u8],
-    image2: &[u8],
-    image3: &[u8],
-)
-    requires { (r.target < 4) × Fits r.q (image_of r.target (images_of image0.now image1.now image2.now image3.now))
-        × (r.b.0 + done ≤ address_count r.q) × (length buffer.old ≡ 512) }
-    ensures { buffer.new
-        ≡ splice 0 (last_read r done (images_of image0.now image1.now image2.now image3.now))
-        buffer.old }
+pub fn keep_done(r: Route, done: usize, buffer: &mut [u8; 512], images: &Images)
+    requires { (r.target < 4) × Fits r.q (image_of r.target (lent images.now))
+        × (r.b.0 + done ≤ address_count r.q) }
+    ensures { buffer.new ≡ splice 0 (last_read r done (lent images.now)) buffer.old }
 {
     if done == 0 {
         return;
     }
     let size = r.q.size;
     let b = r.b;
-    read_on(
-        r.target,
-        r.q,
-        b.further(done - 1),
-        1,
-        &mut buffer[0..size],
-        image0,
-        image1,
-        image2,
-        image3,
-    );
+    images.read(r.target, r.q, b.further(done - 1), 1, &mut buffer[0..size]);
 }

@@ -2,13 +2,12 @@
 ghost use Rattle.std.specs.Prelude.{◌≡◌, ◌+◌, ◌-◌, ◌*◌, ◌≤◌, ◌<◌, length};
 ghost use Rattle.base.specs.Part.{part, splice};
 ghost use Rattle.geometry.specs.Params.{Within};
-ghost use Rattle.copying.specs.declared.route.End.TheVariants.{Going};
-ghost use Rattle.copying.specs.Images.{images_of};
+ghost use Rattle.copying.specs.Ends.{Going, as_end};
+ghost use Rattle.pouring.specs.Lent.{lent, SameLent};
 ghost use Rattle.pouring.specs.Promises.{turn_most, Underway, after_turn, TurnedTo};
 
-use crate::images::{read_on, store_sectors};
-use base::bytes::{copy_bytes, put_front};
-use copying::route::{End, Route};
+use crate::images::{Images, store_sectors};
+use copying::route::{CopyFault, Route};
 use geometry::params::{Lba, Params};
 use sectors::transfer::{Done, sectors_here};
 
@@ -24,7 +23,7 @@ pub struct Progress {
     pub read: usize,
     pub done: usize,
     pub held: usize,
-    pub end: End,
+    pub fault: Option<CopyFault>,
 }
 
 // Of the sectors left, those here, on one track, and as many whole tracks more as fit into a turn.
@@ -62,10 +61,7 @@ fn move_front(bytes: &mut [u8], start: usize, end: usize)
     requires { (start ≤ end) × (end ≤ length bytes.old) × (end - start ≤ 512) }
     ensures { bytes.new ≡ splice 0 (part start (end - start) bytes.old) bytes.old }
 {
-    let n = end - start;
-    let mut room = [0u8; 512];
-    copy_bytes(&mut room[0..n], &bytes[start..end]);
-    put_front(bytes, &room[0..n]);
+    bytes.copy_within(start..end, 0);
 }
 
 // How far a turn came. A destination fault ends the copy, and counts the source sectors that its sector needed; else a source fault.
@@ -77,47 +73,37 @@ fn after_turn(r: Route, s: Progress, source: Done, target: Done, held: usize) ->
     let done = s.done + target.sectors;
     let read = s.read + source.sectors;
     let size = r.p.size;
-    if target.code != 0 {
+    if let Some(code) = target.fault {
         let bytes = (done + 1) * r.q.size + (size - 1);
         return Progress {
             read: bytes / size,
-            done: done,
+            done,
             held: 0,
-            end: End::TargetFault(target.code),
+            fault: Some(CopyFault::AtTarget(code)),
         };
     }
-    if source.code != 0 {
+    if let Some(code) = source.fault {
         return Progress {
-            read: read,
-            done: done,
+            read,
+            done,
             held: 0,
-            end: End::SourceFault(source.code),
+            fault: Some(CopyFault::AtSource(code)),
         };
     }
     Progress {
-        read: read,
-        done: done,
-        held: held,
-        end: End::Going,
+        read,
+        done,
+        held,
+        fault: None,
     }
 }
 
 // A turn, of a copy that goes on and has source sectors left.
-pub fn turn(
-    r: Route,
-    n: usize,
-    s: Progress,
-    scratch: &mut [u8],
-    image0: &mut [u8],
-    image1: &mut [u8],
-    image2: &mut [u8],
-    image3: &mut [u8],
-) -> Progress
-    requires { Underway r n s scratch.old (images_of image0.old image1.old image2.old image3.old)
-        × (s.end ≡ Going) × (s.read < n) }
-    ensures { TurnedTo r n s scratch.old
-        (images_of image0.old image1.old image2.old image3.old)
-        result scratch.new (images_of image0.new image1.new image2.new image3.new) }
+pub fn turn(r: Route, n: usize, s: Progress, scratch: &mut [u8], images: &mut Images) -> Progress
+    requires { Underway r n s scratch.old (lent images.old)
+        × (as_end s.fault ≡ Going) × (s.read < n) }
+    ensures turned { TurnedTo r n s scratch.old (lent images.old) result scratch.new (lent images.new) }
+    ensures same { SameLent images.old images.new }
 {
     let p = r.p;
     let from = r.a;
@@ -125,29 +111,10 @@ pub fn turn(
     let m = chunk(p, a, n - s.read);
     let start = s.held;
     let end = start + m * p.size;
-    let source = read_on(
-        r.source,
-        p,
-        a,
-        m,
-        &mut scratch[start..end],
-        image0,
-        image1,
-        image2,
-        image3,
-    );
+    let source = images.read(r.source, p, a, m, &mut scratch[start..end]);
     let filled = start + source.sectors * p.size;
     let full = filled / r.q.size;
-    let target = store_sectors(
-        r,
-        s.done,
-        full,
-        &scratch[0..filled],
-        image0,
-        image1,
-        image2,
-        image3,
-    );
+    let target = store_sectors(r, s.done, full, &scratch[0..filled], images);
     let used = full * r.q.size;
     move_front(scratch, used, filled);
     after_turn(r, s, source, target, filled - used)

@@ -9,9 +9,9 @@ use Rattle.geometry.specs.declared.params.Params.{Params}
 use Rattle.geometry.specs.declared.params.Lba.{Lba}
 use Rattle.geometry.specs.declared.params.Track.{Track}
 use Rattle.geometry.specs.Params.{track_of, sector_of, further, next, track}
-use Rattle.track.specs.declared.find.Where.TheVariants.{On, Off}
+use Rattle.track.specs.Find.{On, Off}
 use Rattle.track.specs.Image.{track_bytes}
-use Rattle.track.specs.declared.find.Sector.TheVariants.{Fault}
+use Rattle.track.specs.Find.{Fault}
 use Rattle.track.specs.Find.{where_of, slot_used, sector_in}
 use Rattle.track.proofs.Laws.{sector_on, sector_off}
 use Rattle.sectors.specs.Transfer.{found}

@@ -3,15 +3,14 @@ use mathlib.Core.Path.{◌≡◌, refl, sym, ap, ◌∙◌}
 use mathlib.Core.Bool.{true, false}
 use mathlib.Core.Option.{some}
 use mathlib.Core.List.{List}
-use Prim.Native.Nat.{ℕ, ◌+◌, ◌*◌, ◌≤◌, ◌<◌}
-use native.Mathlib.Omega.{arith}
+use Prim.Native.Nat.{ℕ, ◌+◌, ◌*◌, ◌<◌}
 use Rattle.geometry.specs.declared.params.Params.{Params}
 use Rattle.geometry.specs.declared.params.Track.{Track}
 use Rattle.geometry.specs.declared.params.Lba.{Lba}
-use Rattle.geometry.specs.Params.{Within, track_count, track_of, sector_of, address_count, OnDrive, further}
+use Rattle.geometry.specs.Params.{Within, track_count, track_of, sector_of, OnDrive}
 use Rattle.geometry.proofs.Addresses.{track_in, same_lba}
-use Rattle.track.specs.declared.find.Where.TheVariants.{On}
-use Rattle.track.specs.declared.find.Sector.TheVariants.{Slot, Fault}
+use Rattle.track.specs.Find.{On}
+use Rattle.track.specs.Find.{Slot, Fault}
 use Rattle.track.specs.Image.{track_bytes}
 use Rattle.track.specs.Find.{where_of, holds, slot_used}
 use Rattle.track.proofs.Laws.{located_there, located_in, located_first, located_apart, Code, located_code}
@@ -21,10 +20,6 @@ use Rattle.sectors.proofs.Along.{address_of}
 -- the track of an address of the drive
 pub track_below : (p : Params) (a : Lba) (t : Track) → Within p → OnDrive p a → t ≡ track_of p a → t.0 < track_count p
 track_below p a t w h e = rw e (track_in p w a h)
-
--- one of n addresses of the drive
-pub further_on_drive : (p : Params) (a b : Lba) (i n : ℕ) → a.0 + n ≤ address_count p → i < n → b ≡ further a i → OnDrive p b
-further_on_drive p a b i n h l e = rw e (omega arith)
 
 -- ---- the sector at an address is found in slot k of track u
 module _ (p : Params) (a : Lba) (image : List ℕ) (u : Track) (k : ℕ) where

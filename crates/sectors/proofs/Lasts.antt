@@ -1,8 +1,9 @@
 -- The last of some sectors that lie one behind the other.
 use mathlib.Core.Path.{◌≡◌, refl, ap, ◌∙◌}
-use mathlib.Core.List.{List, []}
+use mathlib.Core.List.{List, [], ◌++◌}
 use Prim.Native.Nat.{ℕ, zero, suc, ◌+◌, ◌-◌, ◌*◌, ◌≤◌}
 use native.Mathlib.Omega.{arith}
+use native.Mathlib.Nat.{zero-add}
 use lib.ListN.{length, take, drop}
 use Rattle.base.specs.Part.{part, splice}
 use Rattle.base.proofs.Parts.{cell_in, part_lent, part_left}
@@ -12,21 +13,15 @@ pub last_none : (n size : ℕ) (moved buffer : List ℕ) → n ≡ 0 → buffer 
 unfolding splice last_of
 last_none n size moved buffer e = rw e refl
 
--- the last of some lies within
-pub last_room : (n size len : ℕ) → (n ≡ 0 → ⊥) → n * size ≤ len → (n - 1) * size + size ≤ len
-last_room n size len some h = omega (arith, cell_in size (n - 1) n (omega arith))
-
-last_part : (n size : ℕ) (moved : List ℕ) → (n ≡ 0 → ⊥)
-    → take ((n - 1) * size + size - (n - 1) * size) (drop ((n - 1) * size) moved) ≡ last_of n size moved
-unfolding last_of
-last_part zero size moved some = absurd (some refl)
-last_part (suc n) size moved some =
-    let e : suc n - 1 ≡ n = omega arith in
-    rw e (part_lent (n * size) (n * size + size) size moved refl)
-
-pub last_lent : (n size : ℕ) (moved buffer r : List ℕ) → (n ≡ 0 → ⊥)
-    → r ≡ splice 0 (take ((n - 1) * size + size - (n - 1) * size) (drop ((n - 1) * size) moved)) buffer → r ≡ splice 0 (last_of n size moved) buffer
-last_lent n size moved buffer r some e = e ∙ ap (λ (l : List ℕ). splice 0 l buffer) (last_part n size moved some)
+-- the last of some, k behind the first, over the front
+pub last_lent : (n k size : ℕ) (moved buffer new : List ℕ) → 1 ≤ n → k ≡ n - 1 → length new ≡ size → new ≡ take (k * size + size - k * size) (drop (k * size) moved)
+    → new ++ drop size buffer ≡ splice 0 (last_of n size moved) buffer
+unfolding splice last_of
+last_lent zero k size moved buffer new some ek l e = absurd (omega arith)
+last_lent (suc n) k size moved buffer new some ek l e =
+    let same : k ≡ n = omega arith in
+    let is : new ≡ part (n * size) size moved = e ∙ part_lent (k * size) (k * size + size) size moved refl ∙ ap (λ (i : ℕ). part (i * size) size moved) same in
+    rw (← is, l, zero-add) refl
 
 -- what lies behind the sectors does not count
 pub last_front : (n size : ℕ) (xs ys : List ℕ) → n * size ≤ length xs → last_of n size (splice 0 xs ys) ≡ last_of n size xs

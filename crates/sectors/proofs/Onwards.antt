@@ -2,8 +2,8 @@
 use mathlib.Core.Path.{◌≡◌, refl}
 use Prim.Native.Nat.{ℕ}
 use Rattle.geometry.specs.declared.params.Track.{Track}
-use Rattle.track.specs.declared.find.Sector.{Sector}
-use Rattle.track.specs.declared.find.Sector.TheVariants.{Slot, Fault}
+use Rattle.track.specs.Find.{Sector}
+use Rattle.track.specs.Find.{Slot, Fault}
 use Rattle.sectors.specs.Transfer.{Transfer, ended, onward}
 
 pub onward_has : (P : Transfer → Type 0) (x : Transfer) (next : Track → ℕ → Transfer) (s : Sector)

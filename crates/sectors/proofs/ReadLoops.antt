@@ -7,6 +7,11 @@ use native.Mathlib.Nat.{zero-add, zero-mul, one-mul, add-mul, add-zero, mul-le-m
 use lib.ListN.{length, take, drop}
 use lib.Dec.{ltb}
 use borrow.Rule.Slice.PartMut.{put_mid}
+use mathlib.Core.Bool.{true, false}
+use Rattle.std.specs.Prelude.{Some, None, is_some}
+use Rattle.codes.specs.declared.Code.{Code}
+use Rattle.codes.specs.Numbers.{number_of, code_number}
+use Rattle.codes.proofs.Faults.{fault_none, fault_some}
 use Rattle.base.specs.Pick.{pick}
 use Rattle.base.specs.Part.{part, splice}
 use Rattle.base.proofs.Parts.{length_part, length_splice, part_lent, splice_lent, splice_splice, splice_on}
@@ -14,8 +19,8 @@ use Rattle.geometry.specs.declared.params.Params.{Params}
 use Rattle.geometry.specs.declared.params.Lba.{Lba}
 use Rattle.geometry.specs.declared.params.Track.{Track}
 use Rattle.geometry.specs.Params.{track_of, sector_of, address_count, further}
-use Rattle.track.specs.declared.find.Where.{Where}
-use Rattle.track.specs.declared.find.Where.TheVariants.{On, Off}
+use Rattle.track.specs.Find.{Where}
+use Rattle.track.specs.Find.{On, Off}
 use Rattle.track.specs.Image.{Fits, track_bytes}
 use Rattle.track.specs.Find.{where_of}
 use Rattle.sectors.specs.Run.{run_done, run_read}
@@ -27,12 +32,12 @@ use Rattle.sectors.proofs.Along.{Along, along_here, along_off}
 use Rattle.sectors.proofs.Readings.{Ahead, Handed, reading_ahead, reading_parts, reading_ended, reading_handed, reading_ran}
 
 -- ---- n sectors of one track
-off_along : (p : Params) (n : ℕ) (a : Lba) (image : List ℕ) (t : Track) (s code : ℕ) (places : List ℕ) → Along p n a t s → 1 ≤ n
-    → where_of p t image ≡ Off code → HasRead p n a image (record { sectors = 0; code = code }) places places
+off_along : (p : Params) (n : ℕ) (a : Lba) (image : List ℕ) (t : Track) (s : ℕ) (code : Code) (places : List ℕ) → Along p n a t s → 1 ≤ n
+    → where_of p t image ≡ Off (number_of code) → HasRead p n a image (record { sectors = 0; fault = Some code }) places places
 unfolding reading onward ended begun splice
 off_along p zero a image t s code places along h e = absurd (omega arith)
 off_along p (suc m) a image t s code places along h e =
-    rw (along_off p image m a t s along code e) (record { sectors = refl; code = refl; area = refl })
+    rw (along_off p image m a t s along (number_of code) e) (record { sectors = refl; code = refl; area = refl })
 
 module _ (p : Params) (n : ℕ) (a : Lba) (image : List ℕ) (t : Track) (w : Where) (h : sector_of p a + n ≤ p.sectors)
     (et : t ≡ track_of p a) (ew : w ≡ where_of p t image) where
@@ -40,14 +45,14 @@ module _ (p : Params) (n : ℕ) (a : Lba) (image : List ℕ) (t : Track) (w : Wh
   along = rw et (along_here p n a h)
 
   -- no track is searched for them
-  pub part_off : (code : ℕ) (places : List ℕ) → 1 ≤ n → w ≡ Off code → HasRead p n a image (record { sectors = 0; code = code }) places places
+  pub part_off : (code : Code) (places : List ℕ) → 1 ≤ n → w ≡ Off (number_of code) → HasRead p n a image (record { sectors = 0; fault = Some code }) places places
   part_off code places some e = off_along p n a image t (sector_of p a) code places along some (sym ew ∙ e)
 
   -- track u is: what its run reads
   pub part_on : (u : Track) (first : ℕ) (lent places₀ places : List ℕ) (r : ℕ) (done : Done) → w ≡ On u
       → first ≡ sector_of p a → lent ≡ track_bytes p u image
       → (r ≡ run_done p n first lent) × (places ≡ splice 0 (run_read p n first lent) places₀)
-      → (done.sectors ≡ r) × (done.code ≡ pick (ltb r n) 0x14 0) → HasRead p n a image done places₀ places
+      → (done.sectors ≡ r) × (code_number done.fault ≡ pick (ltb r n) 0x14 0) → HasRead p n a image done places₀ places
   part_on u first lent places₀ places r done e ef el ran d =
       let x = reading_ran p image u t (sym ew ∙ e) n a (sector_of p a) along in
       let is = rw (ef, el) at ran in
@@ -82,9 +87,9 @@ front_read p n a image area after done fits h h₀ en r =
 
 -- a part read behind what was read before: `size` bytes lent at `at`
 read_on : (x y z : Transfer) (i at size end : ℕ) (done : Done) (area₀ area after : List ℕ) → Ahead y.done y.handed x z
-    → ReadBy y (record { sectors = i; code = 0 }) area₀ area → ReadBy z done (take (end - at) (drop at area)) after
+    → ReadBy y (record { sectors = i; fault = None }) area₀ area → ReadBy z done (take (end - at) (drop at area)) after
     → length y.handed ≡ at → length z.handed ≤ size → end ≡ at + size → end ≤ length area
-    → ReadBy x (record { sectors = i + done.sectors; code = done.code }) area₀ (put_mid at (end - at) area after)
+    → ReadBy x (record { sectors = i + done.sectors; fault = done.fault }) area₀ (put_mid at (end - at) area after)
 read_on x y z i at size end done area₀ area after w ry rz ly lz ee room = record {
   sectors = omega (arith, w.done, ry.sectors, rz.sectors);
   code = rz.code ∙ sym w.code;
@@ -97,7 +102,7 @@ pub record Reading (p : Params) (n : ℕ) (a : Lba) (image area₀ area : List �
   pub most : i ≤ n
   pub place : at ≡ i * p.size
   pub len : length area ≡ length area₀
-  pub read : HasRead p i a image (record { sectors = i; code = 0 }) area₀ area
+  pub read : HasRead p i a image (record { sectors = i; fault = None }) area₀ area
 
 module _ (p : Params) (n : ℕ) (a : Lba) (image area₀ : List ℕ) where
   pub reading_none : Reading p n a image area₀ area₀ 0 0
@@ -110,7 +115,7 @@ module _ (p : Params) (n : ℕ) (a : Lba) (image area₀ : List ℕ) where
   }
 
   module _ (area : List ℕ) (i at : ℕ) (w : Reading p n a image area₀ area i at) where
-    pub reading_all : n ≤ i → HasRead p n a image (record { sectors = i; code = 0 }) area₀ area
+    pub reading_all : n ≤ i → HasRead p n a image (record { sectors = i; fault = None }) area₀ area
     reading_all l = let e : n ≡ i = omega (arith, w.most) in rw e w.read
 
     module _ (fits : Fits p image) (h : a.0 + n ≤ address_count p) (h₀ : n * p.size ≤ length area₀) (m : ℕ) (hm : i + m ≤ n) where
@@ -130,7 +135,7 @@ module _ (p : Params) (n : ℕ) (a : Lba) (image area₀ : List ℕ) where
         here = reading_handed p image fits m (further a i) (omega arith)
 
         -- with those before
-        together : HasRead p (i + m) a image (record { sectors = i + done.sectors; code = done.code }) area₀ (put_mid at (end - at) area after)
+        together : HasRead p (i + m) a image (record { sectors = i + done.sectors; fault = done.fault }) area₀ (put_mid at (end - at) area after)
         unfolding begun
         together =
             let y = reading p i a (begun image) in
@@ -145,18 +150,21 @@ module _ (p : Params) (n : ℕ) (a : Lba) (image area₀ : List ℕ) where
         pub reading_most : i + done.sectors ≤ n
         reading_most = omega (arith, r.sectors, here.most)
 
-        pub reading_stop : (done.code ≡ 0 → ⊥)
-            → HasRead p n a image (record { sectors = i + done.sectors; code = done.code }) area₀ (put_mid at (end - at) area after)
+        pub reading_stop : (is_some done.fault ≡ true)
+            → HasRead p n a image (record { sectors = i + done.sectors; fault = done.fault }) area₀ (put_mid at (end - at) area after)
         unfolding begun
         reading_stop ne =
             let all : n ≡ i + m + (n - (i + m)) = omega arith in
-            let ends = reading_ended p (n - (i + m)) (i + m) a (begun image) refl (λ z. ne (together.code ∙ z)) in
+            let ends = reading_ended p (n - (i + m)) (i + m) a (begun image) refl (λ z. fault_some _ ne (together.code ∙ z)) in
             rw (all, ends) together
 
-        module _ (z : done.code ≡ 0) where
+        module _ (failed : is_some done.fault ≡ false) where
+          z : done.fault ≡ None
+          z = fault_none _ failed
+
           -- all m are read
           pub reading_whole : done.sectors ≡ m
-          reading_whole = r.sectors ∙ here.all (sym r.code ∙ z)
+          reading_whole = r.sectors ∙ here.all (sym r.code ∙ ap code_number z)
 
           pub reading_more : Reading p n a image area₀ (put_mid at (end - at) area after) (i + done.sectors) end
           reading_more =

@@ -18,10 +18,10 @@ use Rattle.geometry.specs.declared.params.Params.{Params}
 use Rattle.geometry.specs.declared.params.Lba.{Lba}
 use Rattle.geometry.specs.declared.params.Track.{Track}
 use Rattle.geometry.specs.Params.{track_count, address_count, further, next}
-use Rattle.track.specs.declared.find.Where.TheVariants.{On}
+use Rattle.track.specs.Find.{On}
 use Rattle.track.specs.Image.{Fits, track_bytes, slot_data}
-use Rattle.track.specs.declared.find.Sector.{Sector}
-use Rattle.track.specs.declared.find.Sector.TheVariants.{Slot, Fault}
+use Rattle.track.specs.Find.{Sector}
+use Rattle.track.specs.Find.{Slot, Fault}
 use Rattle.track.specs.Find.{where_of, slot_used, sector_in}
 use Rattle.track.proofs.Laws.{length_track, length_data, Code}
 use Rattle.sectors.specs.Run.{on_slot, run_done, run_read}

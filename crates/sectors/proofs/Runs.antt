@@ -7,13 +7,14 @@ use native.Mathlib.Omega.{arith}
 use native.Mathlib.Nat.{zero-mul, suc-mul}
 use native.Mathlib.Numerals.{add-one}
 use lib.ListN.{length, take, drop, replicate, length-replicate, get_or-replicate}
+use Rattle.std.specs.declared.option.Option.TheVariants.{None}
 use Rattle.base.specs.First.{first_from, first_below}
 use Rattle.base.proofs.Parts.{cell_in}
 use Rattle.geometry.specs.declared.params.Params.{Params}
 use Rattle.geometry.specs.Params.{Within, track_size}
 use Rattle.track.specs.Image.{slot_data, with_data}
 use Rattle.track.specs.Find.{slot_used}
-use Rattle.track.specs.Search.{note_of, Noted}
+use Rattle.track.specs.Search.{Note, note_of, Noted}
 use Rattle.track.proofs.Laws.{Found}
 use Rattle.sectors.specs.Run.{on_slot, run_done, run_read, run_written}
 
@@ -49,7 +50,7 @@ module _ (p : Params) (m s : ℕ) (bytes : List ℕ) where
   written_some given k e = rw e
 
 -- ---- either loop: the sectors before q are done, and what is left, counted from here, gives the whole
-pub record Upto (p : Params) (m s : ℕ) (bytes slots : List ℕ) (looked at q : ℕ) : Type 0 where
+pub record Upto (p : Params) (m s : ℕ) (bytes : List ℕ) (slots : List Note) (looked at q : ℕ) : Type 0 where
   pub from : s ≤ q
   pub most : q ≤ s + m
   pub place : at ≡ (q - s) * p.size
@@ -68,24 +69,24 @@ left_all m s = omega arith
 
 module _ (p : Params) (m s : ℕ) (bytes : List ℕ) where
   -- none is noted at first
-  noted_none : Noted p bytes (replicate 32 0xFF) 0
+  noted_none : Noted p bytes (replicate 32 None) 0
   unfolding Noted note_of first_below first_from
-  noted_none t h = get_or-replicate 32 t 0xFF 0xFF h
+  noted_none t h = get_or-replicate 32 t None None h
 
-  pub upto_none : Upto p m s bytes (replicate 32 0xFF) 0 0 s
+  pub upto_none : Upto p m s bytes (replicate 32 None) 0 0 s
   upto_none =
       let none : s - s ≡ 0 = omega arith in
       record {
         from = omega arith;
         most = omega arith;
         place = rw none (sym (zero-mul p.size));
-        long = length-replicate {A = ℕ} 32 0xFF;
+        long = length-replicate {A = Note} 32 None;
         seen = omega arith;
         noted = noted_none;
         done = rw (none, left_all m s) (omega arith);
       }
 
-  module _ (slots : List ℕ) (looked at q : ℕ) (u : Upto p m s bytes slots looked at q) where
+  module _ (slots : List Note) (looked at q : ℕ) (u : Upto p m s bytes slots looked at q) where
     pub upto_room : q < s + m → at + p.size ≤ m * p.size
     upto_room l = omega (arith, u.place, cell_in p.size (q - s) m (omega (arith, u.from)))
 
@@ -102,7 +103,7 @@ module _ (p : Params) (m s : ℕ) (bytes : List ℕ) where
           let step : run_done p (s + m - q) q bytes ≡ 0 = rw (left_next (s + m) q l) (done_none p (s + m - (q + 1)) q bytes e) in
           omega (arith, u.done)
 
-      pub upto_more : (now : List ℕ) (seen k : ℕ) → Found p bytes now seen q → slot_used p q bytes ≡ some k
+      pub upto_more : (now : List Note) (seen k : ℕ) → Found p bytes now seen q → slot_used p q bytes ≡ some k
           → Upto p m s bytes now seen (at + p.size) (q + 1)
       upto_more now seen k f e =
           let step : run_done p (s + m - q) q bytes ≡ suc (run_done p (s + m - (q + 1)) (q + 1) bytes) =

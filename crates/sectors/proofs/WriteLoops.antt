@@ -6,6 +6,10 @@ use native.Mathlib.Omega.{arith}
 use native.Mathlib.Nat.{zero-mul, one-mul, suc-mul, add-mul, mul-le-mul_right, add-zero, zero-add, suc-add}
 use lib.ListN.{length, take, drop}
 use lib.Seq.{take-nil, take-take, drop-drop}
+use mathlib.Core.Bool.{true, false}
+use Rattle.std.specs.Prelude.{None, is_some}
+use Rattle.codes.specs.Numbers.{code_number}
+use Rattle.codes.proofs.Faults.{fault_none, fault_some}
 use Rattle.geometry.specs.declared.params.Params.{Params}
 use Rattle.geometry.specs.declared.params.Lba.{Lba}
 use Rattle.geometry.specs.declared.params.Track.{Track}
@@ -112,8 +116,8 @@ module _ (p : Params) (n : ℕ) (a : Lba) (given image after : List ℕ) (r : Do
   pub written_most : r.sectors ≤ n
   written_most = rw w.sectors has_counted.most
 
-  pub written_all : r.code ≡ 0 → r.sectors ≡ n
-  written_all z = w.sectors ∙ has_counted.all (sym w.code ∙ z)
+  pub written_all : is_some r.fault ≡ false → r.sectors ≡ n
+  written_all z = w.sectors ∙ has_counted.all (sym w.code ∙ ap code_number (fault_none _ z))
 
 -- ---- what parts have written, put together
 begun_beside : (i : ℕ) (image : List ℕ) (x : Transfer) → i ≡ x.done → 0 ≡ x.code → image ≡ x.image → Beside i x (begun image)
@@ -122,9 +126,9 @@ begun_beside i image x ed ec ei = record { done = omega arith; code = sym ec; im
 
 module _ (p : Params) (a : Lba) (given image₀ : List ℕ) where
   -- i sectors, and then m more
-  has_joined : (i m : ℕ) (image after : List ℕ) (r : Done) → HasWritten p i a given (record { sectors = i; code = 0 }) image₀ image
+  has_joined : (i m : ℕ) (image after : List ℕ) (r : Done) → HasWritten p i a given (record { sectors = i; fault = None }) image₀ image
       → HasWritten p m (further a i) (take (m * p.size) (drop (i * p.size) given)) r image after
-      → HasWritten p (i + m) a given (record { sectors = i + r.sectors; code = r.code }) image₀ after
+      → HasWritten p (i + m) a given (record { sectors = i + r.sectors; fault = r.fault }) image₀ after
   has_joined i m image after r w h =
       let x = writing p i a given (begun image₀) in
       let b = beside p i m (further a i) (drop (i * p.size) given) x (begun image) (begun_beside i image x w.sectors w.code w.image) in
@@ -132,17 +136,17 @@ module _ (p : Params) (a : Lba) (given image₀ : List ℕ) where
       (record { sectors = omega (arith, h.sectors, b.done); code = h.code ∙ sym b.code; image = h.image ∙ sym b.image })
 
   -- one failed, and so no more follow
-  has_stopped : (m k : ℕ) (after : List ℕ) (r : Done) → HasWritten p m a given r image₀ after → (r.code ≡ 0 → ⊥)
+  has_stopped : (m k : ℕ) (after : List ℕ) (r : Done) → HasWritten p m a given r image₀ after → (is_some r.fault ≡ true)
       → HasWritten p (m + k) a given r image₀ after
   unfolding begun
-  has_stopped m k after r w n = rw (stopped p k m a given (begun image₀) refl (λ z. n (w.code ∙ z))) w
+  has_stopped m k after r w n = rw (stopped p k m a given (begun image₀) refl (λ z. fault_some _ n (w.code ∙ z))) w
 
 -- ---- the loop: i sectors are written, one part behind the other
 pub record Writing (p : Params) (n : ℕ) (a : Lba) (given image₀ image : List ℕ) (i at : ℕ) : Type 0 where
   pub most : i ≤ n
   pub place : at ≡ i * p.size
   pub len : length image ≡ length image₀
-  pub is : HasWritten p i a given (record { sectors = i; code = 0 }) image₀ image
+  pub is : HasWritten p i a given (record { sectors = i; fault = None }) image₀ image
 
 module _ (p : Params) (n : ℕ) (a : Lba) (given image₀ : List ℕ) where
   pub writing_none : Writing p n a given image₀ image₀ 0 0
@@ -158,7 +162,7 @@ module _ (p : Params) (n : ℕ) (a : Lba) (given image₀ : List ℕ) where
     pub writing_fits : Fits p image₀ → Fits p image
     writing_fits f = record { within = f.within; long = rw w.len f.long }
 
-    pub writing_all : n ≤ i → HasWritten p n a given (record { sectors = i; code = 0 }) image₀ image
+    pub writing_all : n ≤ i → HasWritten p n a given (record { sectors = i; fault = None }) image₀ image
     writing_all l = let e : i ≡ n = omega (arith, w.most) in rw (← e) w.is
 
     -- m more sectors have their data
@@ -173,22 +177,22 @@ module _ (p : Params) (n : ℕ) (a : Lba) (given image₀ : List ℕ) where
       h : HasWritten p m (further a i) (take (at + m * p.size - at) (drop at given)) part image after
       h = rw eb at was
 
-      together : HasWritten p (i + m) a given (record { sectors = i + part.sectors; code = part.code }) image₀ after
+      together : HasWritten p (i + m) a given (record { sectors = i + part.sectors; fault = part.fault }) image₀ after
       together =
           let wide : at + m * p.size - at ≡ m * p.size = omega arith in
           has_joined p a given image₀ i m image after part w.is (rw (← w.place) (rw wide at h))
 
-      pub writing_stop : (part.code ≡ 0 → ⊥) → HasWritten p n a given (record { sectors = i + part.sectors; code = part.code }) image₀ after
+      pub writing_stop : is_some part.fault ≡ true → HasWritten p n a given (record { sectors = i + part.sectors; fault = part.fault }) image₀ after
       writing_stop failed =
           let e : i + m + (n - (i + m)) ≡ n = omega (arith, w.most) in
           rw e at (has_stopped p a given image₀ (i + m) (n - (i + m)) after _ together failed)
 
-      pub writing_more : part.code ≡ 0 → length after ≡ length image → Writing p n a given image₀ after (i + part.sectors) (at + m * p.size)
+      pub writing_more : is_some part.fault ≡ false → length after ≡ length image → Writing p n a given image₀ after (i + part.sectors) (at + m * p.size)
       writing_more z la =
           let e : part.sectors ≡ m = written_all p m (further a i) _ image after part h z in
           record {
             most = omega (arith, w.most);
             place = rw (e, add-mul) (omega (arith, w.place));
             len = la ∙ w.len;
-            is = rw e (rw (e, z) at together);
+            is = rw e (rw (e, fault_none _ z) at together);
           }

@@ -9,6 +9,9 @@ use lib.ListN.{length, take, drop, length-take, length-drop}
 use lib.Dec.{ltb, leb-suc-suc}
 use borrow.Author.Tests.{lt-ltb}
 use borrow.Rule.Slice.PartMut.{put_mid}
+use Rattle.std.specs.Prelude.{Some}
+use Rattle.codes.specs.declared.Code.{Code}
+use Rattle.codes.specs.Numbers.{number_of, code_number}
 use Rattle.base.specs.Pick.{pick}
 use Rattle.base.proofs.Parts.{splice_lent}
 use Rattle.base.proofs.Splices.{splice_part, splice_again}
@@ -16,7 +19,7 @@ use Rattle.geometry.specs.declared.params.Params.{Params}
 use Rattle.geometry.specs.declared.params.Lba.{Lba}
 use Rattle.geometry.specs.declared.params.Track.{Track}
 use Rattle.geometry.specs.Params.{track_count, track_size, track_start, track_of, sector_of, OnDrive, next}
-use Rattle.track.specs.declared.find.Where.TheVariants.{On, Off}
+use Rattle.track.specs.Find.{On, Off}
 use Rattle.track.specs.Image.{Fits, track_bytes, with_track, with_data}
 use Rattle.track.specs.Find.{where_of, slot_used, sector_in}
 use Rattle.track.proofs.Laws.{track_room, length_track, length_with_track, track_same, length_with_data, track_lent, where_in, used_holds, slot_kept}
@@ -166,10 +169,10 @@ runs p t u ht hu (suc m) a s given x f z on ea l enough =
 -- ---- what is written of one track's sectors is what is promised
 module _ (p : Params) (a : Lba) (given image : List ℕ) (t : Track) (et : t ≡ track_of p a) where
   -- the search ends at the track
-  pub part_off : (n code : ℕ) → where_of p t image ≡ Off code → 1 ≤ n → HasWritten p n a given (record { sectors = 0; code = code }) image image
+  pub part_off : (n : ℕ) (code : Code) → where_of p t image ≡ Off (number_of code) → 1 ≤ n → HasWritten p n a given (record { sectors = 0; fault = Some code }) image image
   unfolding writing onward ended begun
   part_off zero code off h = absurd (omega arith)
-  part_off (suc n) code off h = rw (found_off p a image t et code off) (record { sectors = refl; code = refl; image = refl })
+  part_off (suc n) code off h = rw (found_off p a image t et (number_of code) off) (record { sectors = refl; code = refl; image = refl })
 
   -- it goes on in track u
   module _ (f : Fits p image) (ha : OnDrive p a) (u : Track) (on : where_of p t image ≡ On u)
@@ -186,7 +189,7 @@ module _ (p : Params) (a : Lba) (given image : List ℕ) (t : Track) (et : t ≡
     -- the track was lent for the run, and changed
     pub part_on : (start end sectors : ℕ) (after : List ℕ) (r : Done) → start ≡ track_start p u → end ≡ track_start p u + track_size p
         → (sectors ≡ run_done p n s (take (end - start) (drop start image))) × (after ≡ run_written p n s given (take (end - start) (drop start image)))
-        → (r.sectors ≡ sectors) × (r.code ≡ pick (ltb sectors n) 0x14 0)
+        → (r.sectors ≡ sectors) × (code_number r.fault ≡ pick (ltb sectors n) 0x14 0)
         → HasWritten p n a given r image (put_mid start (end - start) image after)
     unfolding begun with_track
     part_on start end sectors after r e₀ e₁ run done =

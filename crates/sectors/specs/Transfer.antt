@@ -5,8 +5,8 @@ use Rattle.geometry.specs.declared.params.Track.{Track}
 use Rattle.geometry.specs.declared.params.Params.{Params}
 use Rattle.geometry.specs.Params.{track_of, sector_of, next}
 use Rattle.track.specs.Image.{track_bytes, with_track, slot_data, with_data}
-use Rattle.track.specs.declared.find.Sector.{Sector}
-use Rattle.track.specs.declared.find.Sector.TheVariants.{Slot, Fault}
+use Rattle.track.specs.Find.{Sector}
+use Rattle.track.specs.Find.{Slot, Fault}
 use Rattle.track.specs.Find.{sector_found}
 
 -- What is done so far: sectors, bytes handed over, the last sector, the image; and the code that ended it, or 0.

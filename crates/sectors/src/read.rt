@@ -8,29 +8,25 @@ use crate::run::read_run;
 use crate::transfer::{Done, done_of, sectors_here};
 use base::bytes::move_bytes;
 use geometry::params::{Lba, Params};
-use track::find::{Sector, Where, find_sector, where_is};
-use track::sector::{slot_at, slot_data};
+use track::find::{find_sector, where_is};
+use track::view::track_of;
 
 // Reads the sector at an address to its place.
 fn read_one(image: &[u8], p: Params, a: Lba, place: &mut [u8]) -> Done
     requires { Fits p image.now × OnDrive p a × (length place.old ≡ p.size) }
     ensures { HasRead p 1 a image.now result place.old place.new }
 {
-    let found = find_sector(image, p, p.track_of(a), p.sector_of(a) as usize);
-    match found {
-        Sector::Fault(code) => Done {
+    match find_sector(image, p, p.track_of(a), p.sector_of(a) as usize) {
+        Err(code) => Done {
             sectors: 0,
-            code: code,
+            fault: Some(code),
         },
-        Sector::Slot(u, k) => {
-            let stretch = p.stretch(u);
-            let start = stretch.start;
-            let end = stretch.end;
-            let slot = slot_at(&image[start..end], p, k);
-            move_bytes(place, slot_data(slot, p));
+        Ok(found) => {
+            let track = track_of(image, p, found.track);
+            move_bytes(place, track.data(found.slot));
             Done {
                 sectors: 1,
-                code: 0,
+                fault: None,
             }
         }
     }
@@ -41,18 +37,14 @@ fn read_part(image: &[u8], p: Params, a: Lba, n: usize, places: &mut [u8]) -> Do
     requires { Fits p image.now × OnDrive p a × (1 ≤ n) × (sector_of p a + n ≤ p.sectors) × (length places.old ≡ n * p.size) }
     ensures { HasRead p n a image.now result places.old places.new }
 {
-    let place = where_is(image, p, p.track_of(a));
-    match place {
-        Where::Off(code) => Done {
+    match where_is(image, p, p.track_of(a)) {
+        Err(code) => Done {
             sectors: 0,
-            code: code,
+            fault: Some(code),
         },
-        Where::On(u) => {
-            let stretch = p.stretch(u);
-            let start = stretch.start;
-            let end = stretch.end;
+        Ok(u) => {
             let first = p.sector_of(a) as usize;
-            done_of(read_run(&image[start..end], p, first, n, places), n)
+            done_of(read_run(track_of(image, p, u), first, n, places), n)
         }
     }
 }
@@ -70,22 +62,23 @@ pub fn read_sectors(image: &[u8], p: Params, a: Lba, n: usize, area: &mut [u8]) 
     }
     let mut i: usize = 0;
     let mut at: usize = 0;
+    // Not a `for`: a turn goes as far as the track does.
     while i < n {
         let here = a.further(i);
         let m = sectors_here(p, here, n - i);
         let end = at + m * size;
         let part = read_part(image, p, here, m, &mut area[at..end]);
         i += part.sectors;
-        if part.code != 0 {
+        if part.fault.is_some() {
             return Done {
                 sectors: i,
-                code: part.code,
+                fault: part.fault,
             };
         }
         at = end;
     }
     Done {
         sectors: i,
-        code: 0,
+        fault: None,
     }
 }

@@ -6,58 +6,52 @@ ghost use Rattle.sectors.specs.Run.{run_done, run_read, run_written};
 
 use base::bytes::move_bytes;
 use geometry::params::Params;
-use track::search::{NO_SLOT, look_for};
-use track::sector::{slot_at, slot_data, write_data};
+use track::search::look_for;
+use track::sector::write_data;
+use track::view::TrackView;
 
 // Reads m sectors from s on to their places, up to the first that no slot has. Answers how many.
-pub fn read_run(track: &[u8], p: Params, s: usize, m: usize, places: &mut [u8]) -> usize
-    requires { Within p × (length track.now ≡ track_size p) × (s + m ≤ p.sectors) × (length places.old ≡ m * p.size) }
-    ensures { (result ≡ run_done p m s track.now)
-        × (places.new ≡ splice 0 (run_read p m s track.now) places.old) }
+pub fn read_run(track: TrackView<'_>, s: usize, m: usize, places: &mut [u8]) -> usize
+    requires { (s + m ≤ track.p.sectors) × (length places.old ≡ m * track.p.size) }
+    ensures { (result ≡ run_done track.entry.p m s track.entry.bytes.now)
+        × (places.new ≡ splice 0 (run_read track.entry.p m s track.entry.bytes.now) places.old) }
 {
+    let p = track.p;
     let size = p.size;
-    let mut slots = [NO_SLOT; 32];
+    let mut slots = [None; 32];
     let mut looked = 0;
     let mut at = 0;
-    let past = s + m;
-    let mut sector = s;
-    while sector < past {
-        looked = look_for(track, p, &mut slots, looked, sector);
-        let k = slots[sector];
-        if k == NO_SLOT {
+    for sector in s..s + m {
+        looked = look_for(track, &mut slots, looked, sector);
+        let Some(k) = slots[sector] else {
             return sector - s;
-        }
+        };
         let end = at + size;
-        let slot = slot_at(track, p, k as usize);
-        move_bytes(&mut places[at..end], slot_data(slot, p));
+        move_bytes(&mut places[at..end], track.data(k as usize));
         at = end;
-        sector += 1;
     }
     m
 }
 
-// Writes m sectors from s on, up to the first that no slot has. Answers how many.
+// Writes m sectors from s on, up to the first that no slot has. Answers how many. Beside `read_run`, which is lent the track to read: one
+// form for both would be a trait with laws, which is longer than the two.
 pub fn write_run(track: &mut [u8], p: Params, s: usize, m: usize, given: &[u8]) -> usize
     requires { Within p × (length track.old ≡ track_size p) × (s + m ≤ p.sectors) × (length given.now ≡ m * p.size) }
     ensures { (result ≡ run_done p m s track.old)
         × (track.new ≡ run_written p m s given.now track.old) }
 {
     let size = p.size;
-    let mut slots = [NO_SLOT; 32];
+    let mut slots = [None; 32];
     let mut looked = 0;
     let mut at = 0;
-    let past = s + m;
-    let mut sector = s;
-    while sector < past {
-        looked = look_for(track, p, &mut slots, looked, sector);
-        let k = slots[sector];
-        if k == NO_SLOT {
+    for sector in s..s + m {
+        looked = look_for(TrackView { bytes: &*track, p }, &mut slots, looked, sector);
+        let Some(k) = slots[sector] else {
             return sector - s;
-        }
+        };
         let end = at + size;
         write_data(track, p, k as usize, &given[at..end]);
         at = end;
-        sector += 1;
     }
     m
 }

@@ -1,33 +1,34 @@
 // What reading and writing share: how far a transfer came, how far it goes on one track, and its last sector.
 ghost use Rattle.std.specs.Prelude.{◌≡◌, ◌+◌, ◌-◌, ◌*◌, ◌≤◌, min, length, ltb};
+ghost use Rattle.codes.specs.Numbers.{code_number};
 ghost use Rattle.base.specs.Part.{splice};
 ghost use Rattle.base.specs.Pick.{pick};
 ghost use Rattle.geometry.specs.Params.{Within, sector_of};
 ghost use Rattle.sectors.specs.Last.{last_of};
 
-use base::bytes::put_front;
+use codes::Code;
 use geometry::params::{Lba, Params};
 
-// Sectors done, and the code of the one that failed or 0.
+// Sectors done, and the code of the one that failed, if any.
 #[derive(Clone, Copy)]
 pub struct Done {
     pub sectors: usize,
-    pub code: u8,
+    pub fault: Option<Code>,
 }
 
 // What a run of n sectors of a track comes to: 14h where it ended before the last.
 pub fn done_of(sectors: usize, n: usize) -> Done
-    ensures { (result.sectors ≡ sectors) × (result.code ≡ pick (ltb sectors n) 0x14 0) }
+    ensures { (result.sectors ≡ sectors) × (code_number result.fault ≡ pick (ltb sectors n) 0x14 0) }
 {
     if sectors < n {
         return Done {
-            sectors: sectors,
-            code: 0x14,
+            sectors,
+            fault: Some(Code::NoSector),
         };
     }
     Done {
-        sectors: sectors,
-        code: 0,
+        sectors,
+        fault: None,
     }
 }
 
@@ -37,10 +38,7 @@ pub fn sectors_here(p: Params, a: Lba, left: usize) -> usize
     ensures { (result ≡ min left (p.sectors - sector_of p a)) × (1 ≤ result) × (result ≤ left) × (sector_of p a + result ≤ p.sectors) }
 {
     let room = p.sectors - p.sector_of(a) as usize;
-    if left < room {
-        return left;
-    }
-    room
+    left.min(room)
 }
 
 // After a transfer the last sector done is at the buffer's front.
@@ -48,10 +46,8 @@ pub fn keep_last(buffer: &mut [u8], sectors: usize, size: usize, moved: &[u8])
     requires { (size ≤ length buffer.old) × (sectors * size ≤ length moved.now) }
     ensures { buffer.new ≡ splice 0 (last_of sectors size moved.now) buffer.old }
 {
-    if sectors == 0 {
-        return;
+    if let Some(before) = sectors.checked_sub(1) {
+        let start = before * size;
+        buffer[..size].copy_from_slice(&moved[start..start + size]);
     }
-    let start = (sectors - 1) * size;
-    let end = start + size;
-    put_front(buffer, &moved[start..end]);
 }

@@ -7,7 +7,7 @@ ghost use Rattle.sectors.specs.Promises.{HasWritten};
 use crate::run::write_run;
 use crate::transfer::{Done, done_of, sectors_here};
 use geometry::params::{Lba, Params};
-use track::find::{Sector, Where, find_sector, where_is};
+use track::find::{find_sector, where_is};
 use track::sector::write_data;
 
 // Writes the sector at an address.
@@ -15,20 +15,19 @@ fn write_one(image: &mut [u8], p: Params, a: Lba, sector: &[u8]) -> Done
     requires { Fits p image.old × OnDrive p a × (length sector.now ≡ p.size) }
     ensures { HasWritten p 1 a sector.now result image.old image.new }
 {
-    let found = find_sector(image, p, p.track_of(a), p.sector_of(a) as usize);
-    match found {
-        Sector::Fault(code) => Done {
+    match find_sector(image, p, p.track_of(a), p.sector_of(a) as usize) {
+        Err(code) => Done {
             sectors: 0,
-            code: code,
+            fault: Some(code),
         },
-        Sector::Slot(u, k) => {
-            let stretch = p.stretch(u);
+        Ok(found) => {
+            let stretch = p.stretch(found.track);
             let start = stretch.start;
             let end = stretch.end;
-            write_data(&mut image[start..end], p, k, sector);
+            write_data(&mut image[start..end], p, found.slot, sector);
             Done {
                 sectors: 1,
-                code: 0,
+                fault: None,
             }
         }
     }
@@ -39,13 +38,12 @@ fn write_part(image: &mut [u8], p: Params, a: Lba, n: usize, given: &[u8]) -> Do
     requires { Fits p image.old × OnDrive p a × (1 ≤ n) × (sector_of p a + n ≤ p.sectors) × (length given.now ≡ n * p.size) }
     ensures { HasWritten p n a given.now result image.old image.new }
 {
-    let place = where_is(image, p, p.track_of(a));
-    match place {
-        Where::Off(code) => Done {
+    match where_is(image, p, p.track_of(a)) {
+        Err(code) => Done {
             sectors: 0,
-            code: code,
+            fault: Some(code),
         },
-        Where::On(u) => {
+        Ok(u) => {
             let stretch = p.stretch(u);
             let start = stretch.start;
             let end = stretch.end;
@@ -66,22 +64,24 @@ pub fn write_sectors(image: &mut [u8], p: Params, a: Lba, n: usize, given: &[u8]
     }
     let mut i: usize = 0;
     let mut at: usize = 0;
+    // Not a `for`: a turn goes as far as the track does. Beside `read_sectors`: one form for both would be a trait with laws, which is
+    // longer than the two loops.
     while i < n {
         let here = a.further(i);
         let m = sectors_here(p, here, n - i);
         let end = at + m * size;
         let part = write_part(image, p, here, m, &given[at..end]);
         i += part.sectors;
-        if part.code != 0 {
+        if part.fault.is_some() {
             return Done {
                 sectors: i,
-                code: part.code,
+                fault: part.fault,
             };
         }
         at = end;
     }
     Done {
         sectors: i,
-        code: 0,
+        fault: None,
     }
 }

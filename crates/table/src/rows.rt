@@ -1,52 +1,87 @@
 // The commands as one constant table, indexed by opcode.
-ghost use Rattle.std.specs.Prelude.{◌≡◌, ◌<◌};
+ghost use Rattle.std.specs.Prelude.{◌≡◌};
 ghost use Rattle.model.specs.Table.{row_for};
-ghost use Rattle.table.specs.Rows.{has, Says};
+ghost use Rattle.table.specs.Rows.{Says};
 
 use model::table::{
     ArmCommand, Command, Data, DiskCommand, FreeCommand, SectorCommand, TrackCommand,
 };
 
-// The checks that apply are bits, since a small row is cheap to index.
+// The checks that apply to a command.
+#[derive(Clone, Copy)]
+pub struct Checks {
+    // hard disks only: 22h on a floppy
+    pub hard_only: bool,
+    // control bits
+    pub control: bool,
+    // control bit 5 is defined
+    pub fill_bit: bool,
+    // control bit 4 is defined
+    pub keep_bit: bool,
+    // 04h
+    pub present: bool,
+    // 0Ah
+    pub parameters: bool,
+    // byte 4 is an interleave
+    pub interleave: bool,
+    // 21h
+    pub address: bool,
+    // byte 4 is a count
+    pub counted: bool,
+    // 16h
+    pub settled: bool,
+    // but not from track 0 on
+    pub spared_whole: bool,
+}
 
-// hard disks only: 22h on a floppy
-pub const HARD_ONLY: u16 = 1;
-// control bits
-pub const CONTROL: u16 = 2;
-// control bit 5 is defined
-pub const FILL_BIT: u16 = 4;
-// 04h
-pub const PRESENT: u16 = 8;
-// 0Ah
-pub const PARAMETERS: u16 = 16;
-// byte 4 is an interleave
-pub const INTERLEAVE: u16 = 32;
-// 21h
-pub const ADDRESS: u16 = 64;
-// byte 4 is a count
-pub const COUNTED: u16 = 128;
-// 16h
-pub const SETTLED: u16 = 256;
-// but not from track 0 on
-pub const SPARED_WHOLE: u16 = 512;
-// control bit 4 is defined
-pub const KEEP_BIT: u16 = 1024;
+const NO_CHECKS: Checks = Checks {
+    hard_only: false,
+    control: false,
+    fill_bit: false,
+    keep_bit: false,
+    present: false,
+    parameters: false,
+    interleave: false,
+    address: false,
+    counted: false,
+    settled: false,
+    spared_whole: false,
+};
 
-const ON_DRIVE: u16 = PRESENT + PARAMETERS;
+const ON_DRIVE: Checks = Checks {
+    present: true,
+    parameters: true,
+    ..NO_CHECKS
+};
 
-const AT_ADDRESS: u16 = CONTROL + PRESENT + PARAMETERS + ADDRESS + SETTLED;
+const AT_ADDRESS: Checks = Checks {
+    control: true,
+    address: true,
+    settled: true,
+    ..ON_DRIVE
+};
+
+const FORMATTING: Checks = Checks {
+    interleave: true,
+    ..AT_ADDRESS
+};
+
+const ON_HARD_DISK: Checks = Checks {
+    hard_only: true,
+    ..FORMATTING
+};
 
 #[derive(Clone, Copy)]
 pub struct Row {
     pub command: Command,
-    pub checks: u16,
+    pub checks: Checks,
     pub takes: Data,
     pub gives: Data,
 }
 
 const UNKNOWN: Row = Row {
     command: Command::Unknown,
-    checks: 0,
+    checks: NO_CHECKS,
     takes: Data::Nothing,
     gives: Data::Nothing,
 };
@@ -67,44 +102,57 @@ static TABLE: [Row; 18] = [
     UNKNOWN,
     Row {
         command: Command::Free(FreeCommand::RequestSense),
-        checks: 0,
+        checks: NO_CHECKS,
         takes: Data::Nothing,
         gives: Data::Sense,
     },
     Row {
         command: Command::OnDisk(DiskCommand::TrackWork(TrackCommand::FormatDrive)),
-        checks: AT_ADDRESS + FILL_BIT + INTERLEAVE + SPARED_WHOLE,
+        checks: Checks {
+            fill_bit: true,
+            spared_whole: true,
+            ..FORMATTING
+        },
         takes: Data::Nothing,
         gives: Data::Nothing,
     },
     Row {
         command: Command::OnDisk(DiskCommand::TrackWork(TrackCommand::CheckTrack)),
-        checks: AT_ADDRESS + INTERLEAVE + HARD_ONLY,
+        checks: ON_HARD_DISK,
         takes: Data::Nothing,
         gives: Data::Nothing,
     },
     Row {
         command: Command::OnDisk(DiskCommand::TrackWork(TrackCommand::FormatTrack)),
-        checks: AT_ADDRESS + FILL_BIT + INTERLEAVE,
+        checks: Checks {
+            fill_bit: true,
+            ..FORMATTING
+        },
         takes: Data::Nothing,
         gives: Data::Nothing,
     },
     Row {
         command: Command::OnDisk(DiskCommand::TrackWork(TrackCommand::FormatBadTrack)),
-        checks: AT_ADDRESS + INTERLEAVE,
+        checks: FORMATTING,
         takes: Data::Nothing,
         gives: Data::Nothing,
     },
     Row {
         command: Command::OnDisk(DiskCommand::SectorWork(SectorCommand::Read)),
-        checks: AT_ADDRESS + COUNTED,
+        checks: Checks {
+            counted: true,
+            ..AT_ADDRESS
+        },
         takes: Data::Nothing,
         gives: Data::Sectors,
     },
     UNKNOWN,
     Row {
         command: Command::OnDisk(DiskCommand::SectorWork(SectorCommand::Write)),
-        checks: AT_ADDRESS + COUNTED,
+        checks: Checks {
+            counted: true,
+            ..AT_ADDRESS
+        },
         takes: Data::Sectors,
         gives: Data::Nothing,
     },
@@ -118,55 +166,57 @@ static TABLE: [Row; 18] = [
     UNKNOWN,
     Row {
         command: Command::OnDisk(DiskCommand::TrackWork(TrackCommand::AssignAlternate)),
-        checks: AT_ADDRESS + FILL_BIT + KEEP_BIT + INTERLEAVE + HARD_ONLY,
+        checks: Checks {
+            fill_bit: true,
+            keep_bit: true,
+            ..ON_HARD_DISK
+        },
         takes: Data::Alternate,
         gives: Data::Nothing,
     },
     Row {
         command: Command::Free(FreeCommand::WriteBuffer),
-        checks: 0,
+        checks: NO_CHECKS,
         takes: Data::Buffer,
         gives: Data::Nothing,
     },
     Row {
         command: Command::Free(FreeCommand::ReadBuffer),
-        checks: 0,
+        checks: NO_CHECKS,
         takes: Data::Nothing,
         gives: Data::Buffer,
     },
     Row {
         command: Command::Free(FreeCommand::Initialize),
-        checks: PRESENT,
+        checks: Checks {
+            present: true,
+            ..NO_CHECKS
+        },
         takes: Data::Configuration,
         gives: Data::Nothing,
     },
 ];
 
-// The row at 20h. The table ends at 11h: with the rows between, all of them unknown, each look would copy nearly twice as much.
+// The row at 20h. The table ends at 11h: the rows between, all of them unknown, would be bytes of the archive.
 const COPY: Row = Row {
     command: Command::Copy,
-    checks: AT_ADDRESS + COUNTED,
+    checks: Checks {
+        counted: true,
+        ..AT_ADDRESS
+    },
     takes: Data::Nothing,
     gives: Data::Nothing,
 };
 
 // What the table says of an opcode.
-pub fn row_of(opcode: u8) -> Row
-    ensures { Says result (row_for opcode) }
+pub fn row_of(opcode: u8) -> &'static Row
+    ensures { Says result.now (row_for opcode) }
 {
     if opcode < 18 {
-        return TABLE[opcode as usize];
+        return &TABLE[opcode as usize];
     }
     if opcode == 0x20 {
-        return COPY;
+        return &COPY;
     }
-    UNKNOWN
-}
-
-// Whether a row has a check's bit.
-pub fn has(checks: u16, bit: u16) -> bool
-    requires { 0 < bit }
-    ensures { result ≡ has checks bit }
-{
-    checks / bit % 2 == 1
+    &UNKNOWN
 }

@@ -10,7 +10,7 @@ use Rattle.geometry.specs.declared.params.Params.{Params}
 use Rattle.geometry.specs.Params.{track_size}
 use Rattle.track.specs.Image.{slot_id, with_data}
 use Rattle.track.specs.Find.{holds, slot_used}
-use Rattle.track.specs.Search.{note_of, Noted}
+use Rattle.track.specs.Search.{Note, note_of, Noted}
 use Rattle.track.proofs.Images.{id_kept}
 use Rattle.track.proofs.Notes.{Found}
 
@@ -31,11 +31,11 @@ module _ (p : Params) (a b : List ℕ) (same : Alike p a b) where
   slot_alike s = first_alike s p.sectors (omega arith)
 
   -- what is noted of the one holds of the other
-  pub noted_alike : (slots : List ℕ) (looked : ℕ) → looked ≤ p.sectors → Noted p a slots looked → Noted p b slots looked
+  pub noted_alike : (slots : List Note) (looked : ℕ) → looked ≤ p.sectors → Noted p a slots looked → Noted p b slots looked
   unfolding Noted
   noted_alike slots looked h f s l = f s l ∙ ap note_of (first_alike s looked h)
 
-  pub found_alike : (slots : List ℕ) (looked s : ℕ) → Found p a slots looked s → Found p b slots looked s
+  pub found_alike : (slots : List Note) (looked s : ℕ) → Found p a slots looked s → Found p b slots looked s
   found_alike slots looked s f = (f.0, f.1, noted_alike slots looked f.1 f.2, f.3 ∙ ap note_of (slot_alike s))
 
 -- a sector's data written

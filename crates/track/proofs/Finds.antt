@@ -2,22 +2,17 @@
 use mathlib.Core.Path.{◌≡◌, refl, sym, ap, ◌∙◌}
 use mathlib.Core.Bool.{Bool, true, false}
 use mathlib.Core.List.{List}
-use Prim.Native.Nat.{ℕ, ◌+◌, ◌-◌, ◌*◌, ◌≤◌, ◌<◌}
+use Prim.Native.Nat.{ℕ, ◌<◌}
 use native.Mathlib.Omega.{arith}
-use native.Mathlib.Nat.{suc-mul}
-use native.Mathlib.Numerals.{add-one}
-use lib.ListN.{take, drop}
 use lib.Dec.{eqb}
 use borrow.Author.Tests.{ne_eqb}
 use Rattle.base.specs.Pick.{pick}
-use Rattle.base.specs.Part.{part}
-use Rattle.base.proofs.Parts.{part_lent, cell_in}
 use Rattle.geometry.specs.declared.params.Params.{Params}
 use Rattle.geometry.specs.declared.params.Track.{Track}
 use Rattle.geometry.specs.Params.{track_count}
 use Rattle.track.specs.declared.id.Id.{Id}
-use Rattle.track.specs.declared.find.Where.{Where}
-use Rattle.track.specs.declared.find.Where.TheVariants.{On, Off}
+use Rattle.track.specs.Find.{Where}
+use Rattle.track.specs.Find.{On, Off}
 use Rattle.track.specs.Id.{own_id}
 use Rattle.track.specs.Image.{first_id}
 use Rattle.track.specs.Find.{taken_by, where_by, where_of}
@@ -90,13 +85,3 @@ where_has P t id own taken off here there =
     pick_has P _ _ _ (λ e. off _) (λ z.
     pick_has P _ _ _ (λ e. pick_has P taken _ _ there (λ e. off _)) (λ e.
     here z))))))
-
--- ---- slots side by side, each of this size: slot k lies at `at`
-pub id_lent : (size at k : ℕ) (bytes : List ℕ) → at ≡ k * size → take (at + 8 - at) (drop at bytes) ≡ part (k * size) 8 bytes
-id_lent size at k bytes e = part_lent at (at + 8) 8 bytes refl ∙ ap (λ (i : ℕ). part i 8 bytes) e
-
-pub slot_end : (w n size at k len : ℕ) → size ≡ w → at ≡ k * size → len ≡ n * w → k < n → at + size ≤ len
-slot_end w n size at k len es e l h = let z : n * size ≡ n * w = ap (λ (i : ℕ). n * i) es in omega (arith, cell_in size k n h)
-
-pub place_more : (size at k : ℕ) → at ≡ k * size → at + size ≡ (k + 1) * size
-place_more size at k e = rw (add-one, suc-mul) (omega arith)

@@ -1,11 +1,10 @@
 -- Laws of ID bytes.
-use mathlib.Core.Path.{◌≡◌, refl, sym, ap₂, ◌∙◌}
-use mathlib.Core.Bool.{true, false}
+use mathlib.Core.Path.{◌≡◌, refl, ap₂}
+use mathlib.Core.Bool.{true}
 use Prim.Native.Nat.{ℕ}
 use native.Mathlib.Nat.{div-add-mod'}
 use lib.ListN.{length}
-use lib.Dec.{eqb}
-use borrow.Author.Tests.{eq-eqb, ne_eqb}
+use borrow.Author.Tests.{eq-eqb}
 use Rattle.geometry.specs.declared.params.Params.{Params}
 use Rattle.geometry.specs.declared.params.Track.{Track}
 use Rattle.geometry.specs.Params.{cylinder_of, head_of, track}
@@ -31,13 +30,3 @@ own_for p t state s = rw (eq-eqb (cylinder_of p t) (cylinder_of p t) refl, eq-eq
 pub sector_for : (p : Params) (t : Track) (state : State) (r s : ℕ) → with_sector (id_for p t state r) s ≡ id_for p t state s
 unfolding with_sector id_for
 sector_for p t state r s = refl
-
--- the test of a track's own cylinder and head
-module _ (p : Params) (t : Track) (id : Id) (cylinder : ℕ) (ec : cylinder ≡ cylinder_of p t) where
-  pub own_cylinder : (head : ℕ) → head ≡ head_of p t → id.cylinder ≡ cylinder → eqb id.head head ≡ own_id p t id
-  unfolding own_id
-  own_cylinder head eh e = rw (eq-eqb id.cylinder (cylinder_of p t) (e ∙ ec), eh)
-
-  pub other_cylinder : (id.cylinder ≡ cylinder → ⊥) → false ≡ own_id p t id
-  unfolding own_id
-  other_cylinder ne = rw (ne_eqb id.cylinder (cylinder_of p t) (λ e. ne (e ∙ sym ec)))

@@ -4,7 +4,7 @@ use mathlib.Core.List.{List}
 use Prim.Native.Nat.{ℕ, ◌+◌, ◌-◌, ◌*◌, ◌≤◌, ◌<◌}
 use native.Mathlib.Omega.{arith}
 use native.Mathlib.Decide.{dec_lt}
-use native.Mathlib.Nat.{mul-le-mul_right, zero-mul}
+use native.Mathlib.Nat.{mul-le-mul_right}
 use lib.ListN.{length, take, drop}
 use borrow.Rule.Slice.PartMut.{put_mid}
 use Rattle.base.specs.Part.{part, splice}
@@ -67,6 +67,22 @@ module _ (p : Params) (bytes : List ℕ) (l : length bytes ≡ track_size p) whe
   unfolding slot_bytes slot_data
   data_of_slot k = part_part (k * slot_size p) (slot_size p) 8 p.size bytes (omega arith)
 
+  -- slot k as it is lent, its ID and its data lent of it
+  module _ (k : ℕ) (h : k < p.sectors) where
+    pub length_slot : length (slot_bytes p k bytes) ≡ slot_size p
+    unfolding slot_bytes
+    length_slot = length_part (k * slot_size p) (slot_size p) bytes (omega (arith, l, slot_room k h))
+
+    module _ (slot : List ℕ) (e : slot ≡ slot_bytes p k bytes) where
+      pub id_of_slot : take 8 slot ≡ slot_id p k bytes
+      unfolding slot_bytes slot_id part
+      id_of_slot =
+          let z : k * slot_size p + 0 ≡ k * slot_size p = omega arith in
+          ap (take 8) e ∙ rw z at (part_part (k * slot_size p) (slot_size p) 0 8 bytes (omega arith))
+
+      pub data_lent_of : length slot ≡ slot_size p → take (length slot - 8) (drop 8 slot) ≡ slot_data p k bytes
+      data_lent_of es = part_lent 8 (length slot) p.size slot (sym es) ∙ ap (part 8 p.size) e ∙ data_of_slot k
+
   module _ (k : ℕ) (sector : List ℕ) (h : k < p.sectors) (ls : length sector ≡ p.size) where
     data_room : k * slot_size p + 8 + length sector ≤ length bytes
     data_room = omega (arith, ls, l, slot_room k h)
@@ -101,16 +117,6 @@ pub track_lent : (p : Params) (t : Track) (image : List ℕ) (start end : ℕ) �
     → take (end - start) (drop start image) ≡ track_bytes p t image
 unfolding track_bytes
 track_lent p t image start end es ee = part_lent start end (track_size p) image (omega arith) ∙ ap (λ (i : ℕ). part i (track_size p) image) es
-
--- the 8 bytes at a track's start
-pub first_lent : (p : Params) (t : Track) (image : List ℕ) (start : ℕ) → 1 ≤ p.sectors → start ≡ track_start p t
-    → take (start + 8 - start) (drop start image) ≡ slot_id p 0 (track_bytes p t image)
-unfolding track_bytes slot_id
-first_lent p t image start n es =
-    let z : 0 * slot_size p ≡ 0 = zero-mul (slot_size p) in
-    let room : 0 * slot_size p + 8 ≤ track_size p = omega (arith, z, cell_in (slot_size p) 0 p.sectors n) in
-    part_lent start (start + 8) 8 image refl ∙ ap (λ (i : ℕ). part i 8 image) (let e : start ≡ track_start p t + 0 * slot_size p = omega (arith, z) in e)
-    ∙ sym (part_part (track_start p t) (track_size p) (0 * slot_size p) 8 image room)
 
 -- slot k, lent of a track; `size` is a slot's
 module _ (p : Params) (k size : ℕ) (ez : size ≡ slot_size p) where

@@ -10,8 +10,6 @@ pub use Rattle.track.proofs.Images.{track_back, length_with_track, track_same, t
 pub use Rattle.track.proofs.Images.{slot_room, length_data, data_of_slot}
 -- data written to a slot: the length, the slot itself, every other slot, every ID
 pub use Rattle.track.proofs.Images.{length_with_data, data_same, data_other, id_kept}
--- slots of one size side by side, one after the other
-pub use Rattle.track.proofs.Finds.{id_lent, slot_end, place_more}
 -- ---- IDs
 -- eight bytes; what is written is read; another sector of the same track
 pub use Rattle.track.proofs.Ids.{id_length, id_back, sector_for}
@@ -58,6 +56,6 @@ pub use Rattle.track.proofs.Alike.{Alike, slot_alike, with_data_alike, slot_kept
 pub use Rattle.track.proofs.Notes.{Found}
 pub use Rattle.track.proofs.Searched.{slot_none, slot_some, slot_in}
 -- the loop that notes every slot
-pub use Rattle.track.proofs.Notes.{Looked, looked_from, looked_more, noted_all}
+pub use Rattle.track.proofs.Notes.{Looked, looked_more, noted_all}
 -- it holds of a track with the same IDs too
 pub use Rattle.track.proofs.Alike.{noted_alike, found_alike}

@@ -13,9 +13,9 @@ use Rattle.geometry.specs.declared.params.Track.{Track}
 use Rattle.geometry.specs.Params.{track_count}
 use Rattle.geometry.proofs.Addresses.{same_track}
 use Rattle.track.specs.declared.id.Id.{Id}
-use Rattle.track.specs.declared.find.Where.{Where}
-use Rattle.track.specs.declared.find.Where.TheVariants.{On, Off}
-use Rattle.track.specs.declared.find.Sector.TheVariants.{Slot, Fault}
+use Rattle.track.specs.Find.{Where}
+use Rattle.track.specs.Find.{On, Off}
+use Rattle.track.specs.Find.{Slot, Fault}
 use Rattle.track.specs.Image.{track_bytes, first_id}
 use Rattle.track.specs.Find.{taken_by, where_by, where_of, holds, slot_used, sector_in, sector_from, sector_found}
 use Rattle.track.proofs.Takens.{taken_flag}

@@ -1,9 +1,8 @@
 -- Laws of pairs: which of two tracks is below a third, the loop over the tracks, and what it means that no pair is split.
 use mathlib.Core.Path.{◌≡◌, refl, sym, ap, ◌∙◌}
-use mathlib.Core.Bool.{Bool, true, false, not, ◌||◌, true≢false}
+use mathlib.Core.Bool.{Bool, true, false, ◌||◌, true≢false}
 use mathlib.Core.List.{List}
-use Prim.Native.Nat.{ℕ, ◌≤◌, ◌<◌}
-use native.Mathlib.Numerals.{add-one}
+use Prim.Native.Nat.{ℕ, ◌+◌, ◌≤◌, ◌<◌}
 use native.Mathlib.Omega.{arith}
 use lib.Dec.{eqb, ltb}
 use borrow.Author.Tests.{lt-ltb, le-ltb, ne_eqb}
@@ -12,7 +11,7 @@ use Rattle.base.proofs.Decide.{pick-false, pick-both}
 use Rattle.base.proofs.Firsts.{Sought, sought_none, sought_hit, sought_more, sought_all, some_hit, some_none, none_some}
 use Rattle.geometry.specs.declared.params.Params.{Params}
 use Rattle.geometry.specs.declared.params.Track.{Track}
-use Rattle.geometry.specs.Params.{track_count, track, next_track}
+use Rattle.geometry.specs.Params.{track_count, track}
 use Rattle.track.specs.declared.id.Id.{Id}
 use Rattle.track.specs.declared.state.State.{State}
 use Rattle.track.specs.declared.state.State.TheVariants.{Sound, Bad, Moved, Taken}
@@ -26,10 +25,6 @@ or-false true = refl
 or-false false = refl
 
 module _ (s t u : Track) (one other : Bool) (eo : one ≡ ltb t.0 s.0) (eu : other ≡ ltb u.0 s.0) where
-  pub below_first : one ≡ true → not other ≡ one_below s t u
-  unfolding one_below
-  below_first h = rw (sym eo ∙ h, ← eu) (or-false _)
-
   pub below_other : one ≡ false → other ≡ one_below s t u
   unfolding one_below
   below_other h = rw (sym eo ∙ h, ← eu)
@@ -63,25 +58,25 @@ module _ (s t : Track) where
 abbrev split_at : Params → (s : Track) → List ℕ → (k : ℕ) → Bool
 split_at p s image k = splits s (track k) (state_of p (track k) image)
 
-abbrev pub Whole : Params → (s : Track) → List ℕ → (t : Track) → Type 0
-Whole p s image t = Sought (split_at p s image) (track_count p) t.0
+abbrev pub Whole : Params → (s : Track) → List ℕ → (t : ℕ) → Type 0
+Whole p s image t = Sought (split_at p s image) (track_count p) t
 
 module _ (p : Params) (s : Track) (image : List ℕ) where
-  pub whole_none : (t : Track) → t ≡ track 0 → Whole p s image t
-  whole_none t e = rw e (sought_none _ _)
+  pub whole_none : Whole p s image 0
+  whole_none = sought_none _ _
 
-  module _ (t : Track) (w : Whole p s image t) where
-    module _ (is : Bool) (e : is ≡ splits s t (state_of p t image)) (h : t.0 < track_count p) where
-      pub whole_more : is ≡ false → (u : Track) → u ≡ next_track t → Whole p s image u
-      whole_more no-split u eu = rw (eu, ← add-one t.0) (sought_more _ _ t.0 w h (sym e ∙ no-split))
+  module _ (t : ℕ) (w : Whole p s image t) where
+    module _ (is : Bool) (e : is ≡ split_at p s image t) (h : t < track_count p) where
+      pub whole_more : is ≡ false → Whole p s image (t + 1)
+      whole_more no-split = sought_more _ _ t w h (sym e ∙ no-split)
 
       pub whole_hit : is ≡ true → true ≡ pair_split p s image
       unfolding pair_split
-      whole_hit a-split = sym (some_hit _ _ t.0 (sought_hit _ _ t.0 w h (sym e ∙ a-split)))
+      whole_hit a-split = sym (some_hit _ _ t (sought_hit _ _ t w h (sym e ∙ a-split)))
 
-    pub whole_all : track_count p ≤ t.0 → false ≡ pair_split p s image
+    pub whole_all : track_count p ≤ t → false ≡ pair_split p s image
     unfolding pair_split
-    whole_all h = sym (some_none _ _ (sought_all _ _ t.0 w h))
+    whole_all h = sym (some_none _ _ (sought_all _ _ t w h))
 
 -- ---- where no pair is split, no track from s on is taken by one before it
 pub whole_pairs : (p : Params) (s : Track) (image : List ℕ) → pair_split p s image ≡ false → (t u : Track) → t.0 < s.0 → s.0 ≤ u.0

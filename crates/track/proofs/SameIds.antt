@@ -10,8 +10,8 @@ use Rattle.geometry.specs.declared.params.Params.{Params}
 use Rattle.geometry.specs.declared.params.Track.{Track}
 use Rattle.geometry.specs.Params.{track_count, track_size, image_length, track}
 use Rattle.track.specs.declared.id.Id.{Id}
-use Rattle.track.specs.declared.find.Where.{Where}
-use Rattle.track.specs.declared.find.Where.TheVariants.{On, Off}
+use Rattle.track.specs.Find.{Where}
+use Rattle.track.specs.Find.{On, Off}
 use Rattle.track.specs.Id.{id_in, own_id}
 use Rattle.track.specs.Image.{track_bytes, with_track, slot_id, with_data, first_id}
 use Rattle.track.specs.Find.{taken_by, where_by, where_of, slot_used, sector_in, sector_from, sector_found}

@@ -10,11 +10,11 @@ use Rattle.base.proofs.Bools.{both_true}
 use Rattle.base.proofs.Firsts.{first_some, first_before, first_none}
 use Rattle.geometry.specs.declared.params.Params.{Params}
 use Rattle.geometry.specs.declared.params.Track.{Track}
-use Rattle.track.specs.declared.find.Where.TheVariants.{On, Off}
+use Rattle.track.specs.Find.{On, Off}
 use Rattle.track.specs.declared.id.Id.{Id}
 use Rattle.track.specs.Id.{id_in}
 use Rattle.track.specs.Image.{track_bytes, slot_id}
-use Rattle.track.specs.declared.find.Sector.TheVariants.{Fault}
+use Rattle.track.specs.Find.{Fault}
 use Rattle.track.specs.Find.{where_of, holds, slot_used, sector_in, sector_from, sector_found}
 
 module _ (p : Params) (s : ℕ) (bytes : List ℕ) where

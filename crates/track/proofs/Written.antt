@@ -12,7 +12,7 @@ use Rattle.geometry.specs.Params.{track_count}
 use Rattle.track.specs.declared.id.Id.{Id}
 use Rattle.track.specs.declared.state.State.{State}
 use Rattle.track.specs.declared.state.State.TheVariants.{Sound, Bad, Moved, Taken}
-use Rattle.track.specs.declared.find.Where.TheVariants.{On, Off}
+use Rattle.track.specs.Find.{On, Off}
 use Rattle.track.specs.Id.{id_bytes, id_for}
 use Rattle.track.specs.State.{flag_of, partner_of}
 use Rattle.track.specs.Image.{slot_id, first_id}

@@ -1,18 +1,28 @@
 -- Document 01, 'Tracks and slots': finding sector s of track t, in any image.
 use Rattle.std.specs.Prelude.{ℕ, Bool, not, ◌&&◌, List, eqb, ltb}
 use Rattle.std.proofs.Math.Option.{Option, none, some}
+use Rattle.std.specs.Prelude.{Result, Ok, Err}
+use Rattle.codes.specs.declared.Code.{Code}
+use Rattle.codes.specs.Numbers.{number_of}
 use Rattle.base.specs.Pick.{pick}
 use Rattle.base.specs.First.{first_below}
 use Rattle.geometry.specs.declared.params.Params.{Params}
 use Rattle.geometry.specs.declared.params.Track.{Track}
 use Rattle.geometry.specs.Params.{track_count}
 use Rattle.track.specs.declared.id.Id.{Id}
-use Rattle.track.specs.declared.find.Where.{Where}
-use Rattle.track.specs.declared.find.Where.TheVariants.{On, Off}
-use Rattle.track.specs.declared.find.Sector.{Sector}
-use Rattle.track.specs.declared.find.Sector.TheVariants.{Slot, Fault}
+use Rattle.track.specs.declared.find.Place.{Place}
 use Rattle.track.specs.Id.{id_in, own_id}
 use Rattle.track.specs.Image.{track_bytes, slot_id, first_id}
+
+-- The track where the search for a track's sectors goes on, or an error's code.
+pub data Where : Type 0 where
+  On : Track → Where
+  Off : ℕ → Where
+
+-- The track and the slot that a sector is in, or an error's code.
+pub data Sector : Type 0 where
+  Slot : Track → ℕ → Sector
+  Fault : ℕ → Sector
 
 -- Track u is t's partner: a track of this drive whose slot 0 has A1h, its own cylinder and head, flag 3 and partner t.
 unfoldable pub taken_by : Params → (t u : Track) → Id → Bool
@@ -56,3 +66,12 @@ sector_from p s image (On u) = sector_in u (slot_used p s (track_bytes p u image
 -- Finding sector s of track t: the track and the slot that it is in, or the error.
 unfoldable pub sector_found : Params → Track → (s : ℕ) → List ℕ → Sector
 sector_found p t s image = sector_from p s image (where_of p t image)
+
+-- What the code answers, in these terms.
+abbrev pub as_where : Result Track Code → Where
+as_where (Ok u) = On u
+as_where (Err code) = Off (number_of code)
+
+abbrev pub as_sector : Result Place Code → Sector
+as_sector (Ok place) = Slot place.track place.slot
+as_sector (Err code) = Fault (number_of code)

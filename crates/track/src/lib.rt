@@ -7,3 +7,4 @@ pub mod pair;
 pub mod search;
 pub mod sector;
 pub mod state;
+pub mod view;

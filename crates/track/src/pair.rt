@@ -9,26 +9,19 @@ use crate::state::State;
 use geometry::params::{Params, Track};
 
 // The decision by slot 0.
+#[tactic(auto, using(base::proofs::Decide::decide), unfolding(crate::specs::Pair::state_by))]
 fn state_by(id: Id, own: bool) -> State
     ensures { result ≡ state_by id «own» }
 {
-    let partner = id.partner;
-    if id.mark != ID_MARK {
+    if id.mark != ID_MARK || !own {
         return State::Sound;
     }
-    if !own {
-        return State::Sound;
+    match id.flag {
+        1 => State::Bad,
+        2 => State::Moved(id.partner),
+        3 => State::Taken(id.partner),
+        _ => State::Sound,
     }
-    if id.flag == 1 {
-        return State::Bad;
-    }
-    if id.flag == 2 {
-        return State::Moved(partner);
-    }
-    if id.flag == 3 {
-        return State::Taken(partner);
-    }
-    State::Sound
 }
 
 // The state that the format commands go by. A track that is neither bad, moved nor taken counts as sound, whatever is in it.
@@ -41,24 +34,21 @@ pub fn state_of(image: &[u8], p: Params, t: Track) -> State
 }
 
 // Whether exactly one of tracks t and u is below s.
+#[tactic(auto, unfolding(crate::specs::Pair::one_below))]
 fn one_below(s: Track, t: Track, u: Track) -> bool
     ensures { result ≡ one_below s t u }
 {
-    if t.is_before(s) {
-        return !u.is_before(s);
-    }
-    u.is_before(s)
+    (t < s) != (u < s)
 }
 
 // Whether a format from track s on would free one of a pair and not the other.
+#[tactic(auto, unfolding(crate::specs::Pair::splits))]
 fn is_split(s: Track, t: Track, state: State) -> bool
     ensures { result ≡ splits s t state }
 {
     match state {
-        State::Sound => false,
-        State::Bad => false,
-        State::Moved(u) => one_below(s, t, u),
-        State::Taken(u) => one_below(s, t, u),
+        State::Sound | State::Bad => false,
+        State::Moved(u) | State::Taken(u) => one_below(s, t, u),
     }
 }
 
@@ -69,10 +59,7 @@ fn splits_at(image: &[u8], p: Params, s: Track, t: Track) -> bool
     ensures { result ≡ splits s t (state_of p t image.now) }
 {
     let id = first_id(image, p, t);
-    if id.flag < 2 {
-        return false;
-    }
-    is_split(s, t, state_of(image, p, t))
+    2 <= id.flag && is_split(s, t, state_of(image, p, t))
 }
 
 // Whether some track of the drive is of a pair that a format from track s on would split.
@@ -80,12 +67,10 @@ pub fn splits_pair(image: &[u8], p: Params, s: Track) -> bool
     requires { Fits p image.now }
     ensures { result ≡ pair_split p s image.now }
 {
-    let mut t = Track::first();
-    while p.has_track(t) {
-        if splits_at(image, p, s, t) {
+    for t in 0..p.tracks() {
+        if splits_at(image, p, s, Track::numbered(t)) {
             return true;
         }
-        t = t.next();
     }
     false
 }

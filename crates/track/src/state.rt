@@ -13,68 +13,50 @@ pub enum State {
     Taken(Track),
 }
 
-pub fn flag_of(state: State) -> u8
-    ensures { result ≡ flag_of state }
-{
-    match state {
-        State::Sound => 0,
-        State::Bad => 1,
-        State::Moved(_) => 2,
-        State::Taken(_) => 3,
+#[tactic(auto, unfolding(crate::specs::State::flag_of, crate::specs::State::partner_of, crate::specs::State::is_bad, crate::specs::State::is_moved, crate::specs::State::is_taken, crate::specs::State::is_taken_by_other))]
+impl State {
+    pub fn flag(self) -> u8
+        ensures { result ≡ flag_of self }
+    {
+        match self {
+            State::Sound => 0,
+            State::Bad => 1,
+            State::Moved(_) => 2,
+            State::Taken(_) => 3,
+        }
     }
-}
 
-pub fn partner_of(state: State) -> Track
-    ensures { result ≡ partner_of state }
-{
-    match state {
-        State::Sound => Track::first(),
-        State::Bad => Track::first(),
-        State::Moved(partner) => partner,
-        State::Taken(partner) => partner,
+    pub fn partner(self) -> Track
+        ensures { result ≡ partner_of self }
+    {
+        match self {
+            State::Sound | State::Bad => Track::first(),
+            State::Moved(partner) | State::Taken(partner) => partner,
+        }
     }
-}
 
-pub fn is_bad(state: State) -> bool
-    ensures { result ≡ is_bad state }
-{
-    match state {
-        State::Sound => false,
-        State::Bad => true,
-        State::Moved(_) => false,
-        State::Taken(_) => false,
+    pub fn is_bad(self) -> bool
+        ensures { result ≡ is_bad self }
+    {
+        matches!(self, State::Bad)
     }
-}
 
-pub fn is_moved(state: State) -> bool
-    ensures { result ≡ is_moved state }
-{
-    match state {
-        State::Sound => false,
-        State::Bad => false,
-        State::Moved(_) => true,
-        State::Taken(_) => false,
+    pub fn is_moved(self) -> bool
+        ensures { result ≡ is_moved self }
+    {
+        matches!(self, State::Moved(_))
     }
-}
 
-pub fn is_taken_by_other(t: Track, state: State) -> bool
-    ensures { result ≡ is_taken_by_other t state }
-{
-    match state {
-        State::Sound => false,
-        State::Bad => false,
-        State::Moved(_) => false,
-        State::Taken(partner) => !partner.is_same(t),
+    pub fn is_taken(self) -> bool
+        ensures { result ≡ is_taken self }
+    {
+        matches!(self, State::Taken(_))
     }
-}
 
-pub fn is_taken(state: State) -> bool
-    ensures { result ≡ is_taken state }
-{
-    match state {
-        State::Sound => false,
-        State::Bad => false,
-        State::Moved(_) => false,
-        State::Taken(_) => true,
+    // Taken by another track than t.
+    pub fn is_taken_by_other(self, t: Track) -> bool
+        ensures { result ≡ is_taken_by_other t self }
+    {
+        matches!(self, State::Taken(partner) if partner != t)
     }
 }

@@ -1,10 +1,11 @@
 -- What Read leaves.
 use mathlib.Core.Path.{◌≡◌, refl, sym, ap, ◌∙◌}
 use mathlib.Core.List.{List}
-use Prim.Native.Nat.{ℕ, ◌+◌, ◌*◌, ◌≤◌, ◌<◌}
+use Prim.Native.Nat.{ℕ, ◌+◌, ◌*◌, ◌≤◌}
 use native.Mathlib.Omega.{arith}
 use native.Mathlib.Nat.{mul-le-mul}
 use lib.ListN.{length}
+use Rattle.codes.specs.Numbers.{code_number}
 use Rattle.base.specs.Part.{splice}
 use Rattle.geometry.specs.declared.params.Params.{Params}
 use Rattle.geometry.specs.Params.{address_count}
@@ -36,11 +37,8 @@ module _ (b : Block) (p : Params) (area₀ area image : List ℕ) (n : ℕ) (don
   pub read_most : done.sectors ≤ n
   read_most = rw m.sectors has_read.most
 
-  pub read_code : done.code < 0x80
-  read_code = rw m.code has_read.code
-
   pub read_leaves : (entry : Drive) (buffer₀ buffer : List ℕ) (r : Ending) → buffer ≡ splice 0 (last_of done.sectors p.size area) buffer₀
-      → r ≡ transfer_ending b done.sectors done.code (done.sectors * p.size) entry
+      → r ≡ transfer_ending b done.sectors (code_number done.fault) (done.sectors * p.size) entry
       → left_now r buffer area image ≡ left_by (read b p entry buffer₀ image) area₀
   unfolding read left_by
   read_leaves entry buffer₀ buffer r eb er =

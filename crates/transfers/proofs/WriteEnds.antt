@@ -1,11 +1,11 @@
 -- What Write leaves.
 use mathlib.Core.Path.{◌≡◌, refl, sym, ap, ◌∙◌}
 use mathlib.Core.List.{List, []}
-use Prim.Native.Nat.{ℕ, ◌<◌}
+use Prim.Native.Nat.{ℕ}
 use lib.ListN.{length}
+use Rattle.codes.specs.Numbers.{code_number}
 use Rattle.base.specs.Part.{splice}
 use Rattle.geometry.specs.declared.params.Params.{Params}
-use Rattle.geometry.specs.declared.params.Lba.{Lba}
 use Rattle.sectors.specs.Transfer.{begun, writing}
 use Rattle.sectors.specs.declared.transfer.Done.{Done}
 use Rattle.sectors.specs.Promises.{HasWritten}
@@ -19,14 +19,10 @@ use Rattle.model.specs.Record.{effect}
 use Rattle.sectors.specs.Last.{last_of}
 use Rattle.transfers.proofs.Finishes.{transfer_is}
 
-pub write_code : (p : Params) (n : ℕ) (a : Lba) (given image₀ image : List ℕ) (done : Done) → HasWritten p n a given done image₀ image
-    → done.code < 0x80
-write_code p n a given image₀ image done w = rw w.code (writing_taken p n a given image₀).code
-
 -- ---- 0Ah Write
 module _ (b : Block) (p : Params) (entry : Drive) (given image₀ image before after : List ℕ) (n : ℕ) (done : Done) (r : Ending) where
   pub write_leaves : n ≡ count_of b → HasWritten p n b.address given done image₀ image
-      → after ≡ splice 0 (last_of done.sectors p.size given) before → r ≡ transfer_ending b done.sectors done.code 0 entry
+      → after ≡ splice 0 (last_of done.sectors p.size given) before → r ≡ transfer_ending b done.sectors (code_number done.fault) 0 entry
       → effect r after [] image ≡ write b p given entry before image₀
   unfolding write
   write_leaves en w ea er =

@@ -16,11 +16,11 @@ pub fn read(
     entry: Drive,
     b: Block,
     p: Params,
-    buffer: &mut [u8],
+    buffer: &mut [u8; 512],
     area: &mut [u8],
     image: &[u8],
 ) -> Ending
-    requires { OnSectors b p image.now (length area.old) × (length buffer.old ≡ 512) }
+    requires { OnSectors b p image.now (length area.old) }
     ensures { left_now result buffer.new area.new image.now
         ≡ left_by (read b p entry buffer.old image.now) area.old }
 {

@@ -16,11 +16,11 @@ pub fn write(
     entry: Drive,
     b: Block,
     p: Params,
-    buffer: &mut [u8],
+    buffer: &mut [u8; 512],
     given: &[u8],
     image: &mut [u8],
 ) -> Ending
-    requires { OnSectors b p image.old (length given.now) × (length buffer.old ≡ 512) }
+    requires { OnSectors b p image.old (length given.now) }
     ensures { effect result buffer.new [] image.new
         ≡ write b p given.now entry buffer.old image.old }
 {

@@ -1,6 +1,6 @@
 use mathlib.Core.Path.{◌≡◌}
 use lib.ListN.{length}
-use Rattle.model.specs.Engine.{images_of}
+use Rattle.pouring.specs.Lent.{lent, SameLent}
 use Rattle.lines.specs.Frames.{Talking}
 use Rattle.lines.specs.Hearing.{talk_now}
 use Rattle.frames.specs.Onward.{Onward}
@@ -9,8 +9,8 @@ use Rattle.frames.proofs.converse.Given as goal
 abbrev pub invariant-loop : goal.invariant-loop
 invariant-loop g l =
     (length l.input ≡ length l.initial.input)
-    × Talking (talk_now l.session l.bytes l.area (images_of l.image0 l.image1 l.image2 l.image3))
-    × Onward (talk_now l.initial.session l.initial.bytes l.initial.area
-    (images_of l.initial.image0 l.initial.image1 l.initial.image2 l.initial.image3))
-    (talk_now l.session l.bytes l.area (images_of l.image0 l.image1 l.image2 l.image3))
+    × Talking (talk_now l.session l.bytes l.area (lent l.images))
+    × Onward (talk_now l.initial.session l.initial.bytes l.initial.area (lent l.initial.images))
+    (talk_now l.session l.bytes l.area (lent l.images))
     (g.R.Read.remaining l.initial.reader) (g.R.Read.remaining l.reader) (g.W.Write.contents l.initial.writer) (g.W.Write.contents l.writer)
+    × SameLent l.initial.images l.images

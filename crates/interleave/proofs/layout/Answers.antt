@@ -1,17 +1,11 @@
 use native.Mathlib.Omega.{arith}
 use mathlib.Core.Path.{ap, ◌∙◌}
 use Rattle.interleave.specs.Layout.{empty_from}
-use Rattle.interleave.proofs.Layouts.{wrapped_lt, filled_first, filled_next, filled_last}
+use Rattle.interleave.proofs.Layouts.{filled_first, filled_next, filled_last}
 use Rattle.interleave.proofs.layout.Goals as goal
 
 pub loop-s-init : goal.loop-s-init
 loop-s-init c = filled_first _ _ (omega arith) (omega arith)
-
-pub slice_bounds-next_empty-end : goal.slice_bounds-next_empty-end
-slice_bounds-next_empty-end c = omega arith
-
-pub next_empty-slot-requires : goal.next_empty-slot-requires
-next_empty-slot-requires c = (omega arith, wrapped_lt _ _ _ (omega arith) c.wrapped.ensures, omega arith)
 
 pub loop-s-preserved : goal.loop-s-preserved
 loop-s-preserved c =
@@ -19,4 +13,4 @@ loop-s-preserved c =
     filled_next _ _ l.s l.map l.slot _ (omega arith) (omega arith) l.invariant (c.next_empty-slot.ensures.0 ∙ ap (empty_from _ _ _) c.wrapped.ensures)
 
 pub returns : goal.returns
-returns c = filled_last _ _ _ _ _ c.loop-s-test.false c.loop-s.invariant
+returns c = filled_last _ _ _ _ _ (omega arith) c.loop-s.invariant

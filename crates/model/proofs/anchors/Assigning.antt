@@ -11,8 +11,8 @@ use Rattle.geometry.specs.declared.params.Track.{Track}
 use Rattle.geometry.specs.declared.params.Params.{Params}
 use Rattle.geometry.specs.Params.{track_of, track}
 use Rattle.track.specs.State.{is_bad as bad_state, is_moved as moved_state, is_taken as taken_state, is_taken_by_other as taken_by_other}
-use Rattle.model.specs.declared.verdict.Verdict.{Verdict}
-use Rattle.model.specs.declared.verdict.Verdict.TheVariants.{Refused, Faulty, Passed}
+use Rattle.model.specs.Verdicts.{Verdict}
+use Rattle.model.specs.Verdicts.{Refused, Faulty, Passed}
 use Rattle.model.specs.Block.{alternate_of}
 use Rattle.model.specs.Checks.{judged}
 use Rattle.model.specs.Sense.{addressed, sense_of}

@@ -10,15 +10,15 @@ use Rattle.base.specs.Part.{part}
 use Rattle.base.specs.Same.{same_bytes}
 use Rattle.geometry.specs.declared.medium.Medium.{Medium}
 use Rattle.geometry.specs.declared.medium.Medium.TheVariants.{HardDisk, Floppy}
-use Rattle.geometry.specs.declared.config.Setting.{Setting}
-use Rattle.geometry.specs.declared.config.Setting.TheVariants.{Valid, Invalid}
+use Rattle.geometry.specs.Config.{Setting}
+use Rattle.std.specs.Prelude.{Some, None}
 use Rattle.geometry.specs.Medium.{medium_of, is_floppy, is_in, ranges_of}
 use Rattle.geometry.specs.Config.{size_for, fitted_to, fields_in, setting_by, setting_of, is_valid, label_setting, label_holds}
 
 -- C, H, n and D; or nothing
 gives : Setting → List ℕ
-gives Invalid = []
-gives (Valid p) = p.cylinders ∷ p.heads ∷ p.sectors ∷ p.size ∷ []
+gives None = []
+gives (Some p) = p.cylinders ∷ p.heads ∷ p.sectors ∷ p.size ∷ []
 
 -- one cylinder, one head, 256 bytes a sector; bytes 5 to 8 are any
 plain : List ℕ

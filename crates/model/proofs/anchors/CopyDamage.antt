@@ -9,7 +9,7 @@ use Rattle.base.specs.Pick.{pick}
 use Rattle.base.specs.Part.{part, splice}
 use Rattle.base.specs.First.{first_from, first_below}
 use Rattle.geometry.specs.declared.params.Params.{Params}
-use Rattle.geometry.specs.declared.config.Setting.TheVariants.{Valid}
+use Rattle.std.specs.Prelude.{Some}
 use Rattle.track.specs.Id.{id_in, own_id}
 use Rattle.track.specs.Image.{track_bytes, with_track, slot_id, slot_data, with_data, first_id}
 use Rattle.track.specs.Find.{taken_by, where_by, where_of, holds, slot_used, sector_in, sector_from, sector_found}
@@ -73,7 +73,7 @@ holed = set pairs 36 0
 -- ---- How it is asked: from drive 1 to drive 2; drive 1's sense has a code, and the buffer four bytes
 copies : (from to : Params) → (at count onto : ℕ) → (source target : List ℕ) → CopyEffect
 copies from to at count onto source target =
-    copy_with (copy_of (0x20 ∷ 0x20 ∷ 0 ∷ at ∷ count ∷ 0x40 ∷ 0 ∷ onto ∷ 0 ∷ 0 ∷ [])) (Valid from) (Valid to)
+    copy_with (copy_of (0x20 ∷ 0x20 ∷ 0 ∷ at ∷ count ∷ 0x40 ∷ 0 ∷ onto ∷ 0 ∷ 0 ∷ [])) (Some from) (Some to)
     (record { sense = 0x16 ∷ 0x20 ∷ 0 ∷ 0 ∷ []; config = replicate 10 0; known = true; pending = false }) (1 ∷ 2 ∷ 3 ∷ 4 ∷ [])
     ([] ∷ source ∷ target ∷ [])
 

@@ -12,9 +12,9 @@ use Rattle.geometry.specs.declared.medium.Medium.{Medium}
 use Rattle.geometry.specs.declared.medium.Medium.TheVariants.{HardDisk, Floppy}
 use Rattle.geometry.specs.Medium.{medium_of, is_floppy, is_in, ranges_of}
 use Rattle.geometry.specs.Config.{size_for, fitted_to, fields_in, setting_by, setting_of, is_valid, label_setting}
-use Rattle.model.specs.declared.verdict.Verdict.{Verdict}
-use Rattle.model.specs.declared.verdict.Verdict.TheVariants.{Refused, Faulty, Passed}
-use Rattle.model.specs.declared.verdict.Judgement.{Judgement}
+use Rattle.model.specs.Verdicts.{Verdict}
+use Rattle.model.specs.Verdicts.{Refused, Faulty, Passed}
+use Rattle.model.specs.Verdicts.{Judgement}
 use Rattle.model.specs.Block.{block_of, is_copy, block_length, is_whole, copy_of, count_of}
 use Rattle.model.specs.Table.{check_number, is_among, row_for}
 use Rattle.model.specs.declared.verdict.View.{View}

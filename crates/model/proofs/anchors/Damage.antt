@@ -17,8 +17,8 @@ use Rattle.track.specs.declared.state.State.TheVariants.{Sound, Bad, Moved, Take
 use Rattle.track.specs.Id.{id_bytes, id_in, id_for, own_id, with_sector}
 use Rattle.track.specs.State.{flag_of, partner_of}
 use Rattle.track.specs.Image.{track_bytes, with_track, slot_id, slot_data, with_data, first_id}
-use Rattle.track.specs.declared.find.Sector.{Sector}
-use Rattle.track.specs.declared.find.Sector.TheVariants.{Slot, Fault}
+use Rattle.track.specs.Find.{Sector}
+use Rattle.track.specs.Find.{Slot, Fault}
 use Rattle.track.specs.Find.{taken_by, where_by, where_of, holds, slot_used, sector_in, sector_from, sector_found}
 use Rattle.track.specs.Pair.{state_by, state_of, one_below, splits, pair_split}
 use Rattle.formatter.specs.Format.{slot_made, slots_made, formatted}

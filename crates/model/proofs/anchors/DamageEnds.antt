@@ -9,7 +9,7 @@ use Rattle.base.specs.Pick.{pick}
 use Rattle.base.specs.Part.{part, splice}
 use Rattle.base.specs.First.{first_from, first_below, is_some, some_below, every_below}
 use Rattle.base.specs.Same.{same_bytes}
-use Rattle.geometry.specs.declared.config.Setting.TheVariants.{Valid}
+use Rattle.std.specs.Prelude.{Some}
 use Rattle.interleave.specs.Layout.{empty_from, lay_at, place, laid, layout_of}
 use Rattle.track.specs.Id.{id_bytes, id_in, id_for, own_id, with_sector}
 use Rattle.track.specs.State.{flag_of, partner_of}
@@ -32,7 +32,7 @@ use Rattle.model.proofs.anchors.Damage.{p, slot, whole, hurt}
 -- a command of drive 1 at this address; the interleave is 2, or it is the count; the sense has a code, the buffer 1s
 at : (address extra : ℕ) → (given image : List ℕ) → Command → Effect
 at address extra given image command =
-    carry_out (block_of (0 ∷ 0x20 ∷ 0 ∷ address ∷ extra ∷ 0 ∷ [])) (Valid p) given
+    carry_out (block_of (0 ∷ 0x20 ∷ 0 ∷ address ∷ extra ∷ 0 ∷ [])) (Some p) given
     (record { sense = 0x16 ∷ 0x20 ∷ 0 ∷ 0 ∷ []; config = replicate 10 0; known = true; pending = false }) (replicate 512 1) image command
 
 check : (address : ℕ) → List ℕ → Effect

@@ -9,7 +9,7 @@ use Rattle.base.specs.Pick.{pick}
 use Rattle.base.specs.Part.{part, splice, rows}
 use Rattle.base.specs.First.{first_from, first_below, is_some, some_below}
 use Rattle.geometry.specs.declared.params.Params.{Params}
-use Rattle.geometry.specs.declared.config.Setting.TheVariants.{Valid}
+use Rattle.std.specs.Prelude.{Some}
 use Rattle.geometry.specs.Medium.{medium_of, is_floppy}
 use Rattle.geometry.specs.Params.{track}
 use Rattle.interleave.specs.Layout.{empty_from, lay_at, place, laid, layout_of}
@@ -54,7 +54,7 @@ controller = record {
 -- the image that a command leaves of one that is EEh throughout, two bytes longer than the drive; address and control byte
 leaves_on : (drive : ℕ) → TrackCommand → (address control : ℕ) → (given : List ℕ) → List ℕ
 leaves_on drive command address control given =
-    (carry_out (block_of (0 ∷ (32 * drive) ∷ 0 ∷ address ∷ 1 ∷ control ∷ [])) (Valid p) given (drive_at controller drive) controller.buffer (replicate 72 0xEE)
+    (carry_out (block_of (0 ∷ (32 * drive) ∷ 0 ∷ address ∷ 1 ∷ control ∷ [])) (Some p) given (drive_at controller drive) controller.buffer (replicate 72 0xEE)
     (OnDisk (TrackWork command))).image
 
 leaves : TrackCommand → (address control : ℕ) → (given : List ℕ) → List ℕ
@@ -100,7 +100,7 @@ q = record { cylinders = 1; heads = 3; sectors = 4; size = 1 }
 
 makes : TrackCommand → (address : ℕ) → (given : List ℕ) → List ℕ
 makes command address given =
-    (carry_out (block_of (0 ∷ 0 ∷ 0 ∷ address ∷ 3 ∷ 0 ∷ [])) (Valid q) given (drive_at controller 0) controller.buffer (replicate 124 0xEE)
+    (carry_out (block_of (0 ∷ 0 ∷ 0 ∷ address ∷ 3 ∷ 0 ∷ [])) (Some q) given (drive_at controller 0) controller.buffer (replicate 124 0xEE)
     (OnDisk (TrackWork command))).image
 
 track_of_lem : (head flag partner : ℕ) → List ℕ

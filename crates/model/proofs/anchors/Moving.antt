@@ -10,7 +10,7 @@ use Rattle.base.specs.Pick.{pick}
 use Rattle.base.specs.Part.{part, splice, rows}
 use Rattle.base.specs.First.{first_from, first_below}
 use Rattle.geometry.specs.declared.params.Params.{Params}
-use Rattle.geometry.specs.declared.config.Setting.TheVariants.{Valid}
+use Rattle.std.specs.Prelude.{Some}
 use Rattle.geometry.specs.Medium.{medium_of, is_floppy}
 use Rattle.interleave.specs.Layout.{empty_from, lay_at, place, laid, layout_of}
 use Rattle.track.specs.Id.{id_bytes, id_in, id_for, own_id, with_sector}
@@ -79,7 +79,7 @@ controller = record { sense = 0x16 ∷ 0 ∷ 0 ∷ 0 ∷ []; config = replicate 
 -- Assign Alternate with interleave 2: A at this address, control byte, B at this address, on an image; the buffer has other bytes
 sent : (address control alternate : ℕ) → (image : List ℕ) → Effect
 sent address control alternate image =
-    carry_out (block_of (0x0E ∷ 0 ∷ 0 ∷ address ∷ 2 ∷ control ∷ [])) (Valid p) (0 ∷ 0 ∷ alternate ∷ []) controller (71 ∷ 72 ∷ 73 ∷ []) image (OnDisk (TrackWork AssignAlternate))
+    carry_out (block_of (0x0E ∷ 0 ∷ 0 ∷ address ∷ 2 ∷ control ∷ [])) (Some p) (0 ∷ 0 ∷ alternate ∷ []) controller (71 ∷ 72 ∷ 73 ∷ []) image (OnDisk (TrackWork AssignAlternate))
 
 -- what it leaves: the image, the buffer; what it says: number, status, counts, then the sense
 left : Effect → List ℕ

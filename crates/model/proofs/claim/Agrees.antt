@@ -9,7 +9,7 @@ use Rattle.base.specs.Pick.{pick}
 use Rattle.base.specs.Part.{splice}
 use Rattle.geometry.specs.declared.params.Params.{Params}
 use Rattle.geometry.specs.declared.medium.Medium.{Medium}
-use Rattle.geometry.specs.declared.config.Setting.TheVariants.{Valid, Invalid}
+use Rattle.std.specs.Prelude.{Some, None}
 use Rattle.geometry.specs.Medium.{medium_of}
 use Rattle.geometry.specs.Config.{setting_of, label_config, label_setting}
 use Rattle.model.specs.declared.record.Drive.{Drive}
@@ -23,9 +23,9 @@ use Rattle.model.proofs.claim.Mirrors.{Mirrors}
 
 -- The stored configuration is the label's, and the image mirrors the machine under it; none is stored where the label is not valid.
 pub data Stored (medium : Medium) (u : Disk) (image : List ℕ) : Option (List ℕ) → Type 0 where
-  nothing : label_setting medium image ≡ Invalid → Stored medium u image none
-  something : (config : List ℕ) (p : Params) → setting_of medium config (length image) ≡ Valid p → label_config image ≡ config
-      → label_setting medium image ≡ Valid p → Mirrors p u.kind u.inter u.held image → Stored medium u image (some config)
+  nothing : label_setting medium image ≡ None → Stored medium u image none
+  something : (config : List ℕ) (p : Params) → setting_of medium config (length image) ≡ Some p → label_config image ≡ config
+      → label_setting medium image ≡ Some p → Mirrors p u.kind u.inter u.held image → Stored medium u image (some config)
 
 -- One drive, but for its sense.
 pub record Drives (medium : Medium) (entry : Drive) (image : List ℕ) (u : Disk) : Type 0 where

@@ -12,16 +12,16 @@ use Rattle.geometry.specs.declared.params.Lba.{Lba}
 use Rattle.geometry.specs.declared.params.Track.{Track}
 use Rattle.geometry.specs.declared.params.Params.{Params}
 use Rattle.geometry.specs.declared.medium.Medium.{Medium}
-use Rattle.geometry.specs.declared.config.Setting.TheVariants.{Valid}
+use Rattle.std.specs.Prelude.{Some}
 use Rattle.geometry.specs.Params.{Within, track_count, track_of, sector_of, OnDrive}
 use Rattle.geometry.specs.Medium.{medium_of}
 use Rattle.geometry.specs.Config.{setting_of}
 use Rattle.geometry.proofs.Settings.{setting_within}
 use Rattle.geometry.proofs.Addresses.{track_of_drive}
 use Rattle.track.specs.Image.{track_bytes, slot_data}
-use Rattle.track.specs.declared.find.Sector.TheVariants.{Slot}
+use Rattle.track.specs.Find.{Slot}
 use Rattle.track.specs.Find.{sector_found}
-use Rattle.model.specs.declared.verdict.Verdict.TheVariants.{Faulty, Passed}
+use Rattle.model.specs.Verdicts.{Faulty, Passed}
 use Rattle.model.specs.Feed.{Reply}
 use Rattle.model.specs.Checks.{judged}
 use Rattle.model.specs.Engine.{image_of}
@@ -60,7 +60,7 @@ held_inside p w kind past a held = by (dec_lt (track_of p a).0 (track_count p))
     by (no h) = absurd (false≢true (sym (ap is_held (past (track_of p a) (omega (arith, h)))) ∙ held))
 
 stored_holds : (medium : Medium) (u : Disk) (image : List ℕ) {o : Option (List ℕ)} → Stored medium u image o → (config : List ℕ) → o ≡ some config
-    → (p : Params) × (setting_of medium config (length image) ≡ Valid p)
+    → (p : Params) × (setting_of medium config (length image) ≡ Some p)
     × ((a : Lba) → is_held (u.kind (track_of p a)) ≡ true
     → (t : Track) × (k : ℕ) × (sector_found p (track_of p a) (sector_of p a) image ≡ Slot t k)
     × (slot_data p k (track_bytes p t image) ≡ u.held a))

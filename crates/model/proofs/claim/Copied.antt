@@ -13,15 +13,15 @@ use Rattle.base.specs.Part.{splice}
 use Rattle.base.proofs.Decide.{pick_true, pick-false}
 use Rattle.geometry.specs.declared.params.Lba.{Lba}
 use Rattle.geometry.specs.declared.params.Params.{Params}
-use Rattle.geometry.specs.declared.config.Setting.{Setting}
-use Rattle.geometry.specs.declared.config.Setting.TheVariants.{Valid, Invalid}
+use Rattle.geometry.specs.Config.{Setting}
+use Rattle.std.specs.Prelude.{Some, None}
 use Rattle.geometry.specs.Params.{further}
 use Rattle.geometry.specs.Medium.{medium_of}
 use Rattle.sectors.specs.Transfer.{Transfer}
 use Rattle.contents.proofs.Laws.{Given}
 use Rattle.copying.specs.declared.route.Route.{Route}
-use Rattle.copying.specs.declared.route.End.{End}
-use Rattle.copying.specs.declared.route.End.TheVariants.{Going, SourceFault, TargetFault, Short}
+use Rattle.copying.specs.Ends.{End}
+use Rattle.copying.specs.Ends.{Going, SourceFault, TargetFault, Short}
 use Rattle.copying.specs.Copying.{Copying, copied}
 use Rattle.copying.specs.Listwise.{read_all, sectors_for, write_all, read_of, Fitting}
 use Rattle.copying.proofs.Laws.{end_by_codes, end_by_codes_lem, read_so_far, copied_listwise, read_long, read_all_lem, read_whole, given_all, copied_target, copied_others}
@@ -29,9 +29,9 @@ use Rattle.model.specs.declared.block.Block.{Block}
 use Rattle.model.specs.declared.block.CopyBlock.{CopyBlock}
 use Rattle.model.specs.declared.record.Controller.{Controller}
 use Rattle.model.specs.declared.record.Answer.{Answer}
-use Rattle.model.specs.declared.verdict.Verdict.{Verdict}
-use Rattle.model.specs.declared.verdict.Verdict.TheVariants.{Faulty, Passed}
-use Rattle.model.specs.declared.verdict.Judgement.{Judgement}
+use Rattle.model.specs.Verdicts.{Verdict}
+use Rattle.model.specs.Verdicts.{Faulty, Passed}
+use Rattle.model.specs.Verdicts.{Judgement}
 use Rattle.model.specs.declared.verdict.View.{View}
 use Rattle.model.specs.Block.{is_copy, copy_of, count_of}
 use Rattle.model.specs.Checks.{judge_over, filling_of, shares}
@@ -118,8 +118,8 @@ module _ (c : Controller) (four : length c.drives ≡ 4) (area buffer : List ℕ
 -- ---- The copy itself: the machine's read and write go with the engine's Read and Write
 module _ (c : Controller) (images : List (List ℕ)) (m : Machine) (agree : Agrees c (λ d. image_of d images) m) (k : CopyBlock)
     (from-there : k.from.drive < 4) (to-there : k.to.drive < 4) (p q : Params)
-    (sp : setting_in (medium_of k.from.drive) (drive_at c k.from.drive) (length (image_of k.from.drive images)) ≡ Valid p)
-    (sq : setting_in (medium_of k.to.drive) (drive_at c k.to.drive) (length (image_of k.to.drive images)) ≡ Valid q)
+    (sp : setting_in (medium_of k.from.drive) (drive_at c k.from.drive) (length (image_of k.from.drive images)) ≡ Some p)
+    (sq : setting_in (medium_of k.to.drive) (drive_at c k.to.drive) (length (image_of k.to.drive images)) ≡ Some q)
     (calm-from : (drive_at c k.from.drive).pending ≡ false) (calm-to : (drive_at c k.to.drive).pending ≡ false)
     (fit : Fitting (route_of k p q) (count_of k.from) images) where
   abbrev route : Route
@@ -150,7 +150,7 @@ module _ (c : Controller) (images : List (List ℕ)) (m : Machine) (agree : Agre
   drive_of : (d : ℕ) → d < 4 → Drives (medium_of d) (drive_at c d) (image_of d images) (m.disks d)
   drive_of d l = (agree.drives d l).drive
 
-  force_of : (d : ℕ) → d < 4 → (s : Params) → setting_in (medium_of d) (drive_at c d) (length (image_of d images)) ≡ Valid s
+  force_of : (d : ℕ) → d < 4 → (s : Params) → setting_in (medium_of d) (drive_at c d) (length (image_of d images)) ≡ Some s
       → InForce (medium_of d) (drive_at c d) (image_of d images) (m.disks d) s
   unfolding view_of
   force_of d l s e =
@@ -350,9 +350,9 @@ module _ (c : Controller) (area : List ℕ) (images : List (List ℕ)) (m : Mach
       → shares k (count_of k.from) (filling_of (count_of k.from) s t) ≡ false
       → Answered (replied (left_by_copy from (copy_with k s t (drive_at c from) c.buffer images) c area)) (copy_by k s t m)
   unfolding copy_with copy_by filling_of
-  passed_answered Invalid t es et one two three = fault_answered from 0x0A k.from.address
-  passed_answered (Valid p) Invalid es et one two three = fault_answered to 0x0A k.to.address
-  passed_answered (Valid p) (Valid q) es et one two three =
+  passed_answered None t es et one two three = fault_answered from 0x0A k.from.address
+  passed_answered (Some p) None es et one two three = fault_answered to 0x0A k.to.address
+  passed_answered (Some p) (Some q) es et one two three =
       let copies =
       passed_copies k (drive_at c from) (drive_at c to) images (from_copy block copy) (to_copy block copy) (one_drive c block area images copy) p q es et one two three
       in

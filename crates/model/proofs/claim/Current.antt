@@ -10,7 +10,7 @@ use lib.ListN.{length}
 use Rattle.base.specs.Pick.{pick}
 use Rattle.geometry.specs.declared.params.Params.{Params}
 use Rattle.geometry.specs.declared.medium.Medium.{Medium}
-use Rattle.geometry.specs.declared.config.Setting.TheVariants.{Valid, Invalid}
+use Rattle.std.specs.Prelude.{Some, None}
 use Rattle.geometry.specs.Params.{Within, image_length}
 use Rattle.geometry.specs.Config.{setting_of, label_setting}
 use Rattle.geometry.proofs.Settings.{setting_within}
@@ -25,7 +25,7 @@ use Rattle.model.proofs.claim.Agrees.{Stored, nothing, something, Drives}
 
 -- ---- one view
 setting_by_lem : (medium : Medium) (known : Bool) (config : List ℕ) (len : ℕ)
-    → setting_with medium (pick known (some config) none) len ≡ pick known (setting_of medium config len) Invalid
+    → setting_with medium (pick known (some config) none) len ≡ pick known (setting_of medium config len) None
 unfolding pick setting_with
 setting_by_lem medium true config len = refl
 setting_by_lem medium false config len = refl
@@ -42,7 +42,7 @@ module _ (medium : Medium) (entry : Drive) (image : List ℕ) (u : Disk) (drive 
 -- ---- parameters in force
 pub record InForce (medium : Medium) (entry : Drive) (image : List ℕ) (u : Disk) (p : Params) : Type 0 where
   pub is : u.force ≡ some entry.config
-  pub setting : setting_of medium entry.config (length image) ≡ Valid p
+  pub setting : setting_of medium entry.config (length image) ≡ Some p
   pub within : Within p
   pub fits : image_length p ≤ length image
 
@@ -51,12 +51,12 @@ unfolding label_setting
 label_same medium image after keeps = rw (keeps.label 10 6 (omega arith), keeps.label 0 10 (omega arith), keeps.len)
 
 -- what is stored, where it is a configuration that gives p
-module _ (medium : Medium) (u : Disk) (image config : List ℕ) (p : Params) (setting : setting_of medium config (length image) ≡ Valid p) where
+module _ (medium : Medium) (u : Disk) (image config : List ℕ) (p : Params) (setting : setting_of medium config (length image) ≡ Some p) where
   stored_mirrors : {o : Option (List ℕ)} → Stored medium u image o → o ≡ some config → Mirrors p u.kind u.inter u.held image
   stored_mirrors (nothing i) e = absurd (let z : ◌≡◌ {A = ℕ} 0 1 = cc in omega arith)
   stored_mirrors (something before q s l i mirror) e =
       let same : before ≡ config = cc in
-      let valid : Valid q ≡ Valid p = sym s ∙ ap (λ (k : List ℕ). setting_of medium k (length image)) same ∙ setting in
+      let valid : Some q ≡ Some p = sym s ∙ ap (λ (k : List ℕ). setting_of medium k (length image)) same ∙ setting in
       let eq : q ≡ p = cc in
       subst (λ (r : Params). Mirrors r u.kind u.inter u.held image) eq mirror
 
@@ -65,12 +65,12 @@ module _ (medium : Medium) (u : Disk) (image config : List ℕ) (p : Params) (se
   stored_again v after keeps mirror (nothing i) e = absurd (let z : ◌≡◌ {A = ℕ} 0 1 = cc in omega arith)
   stored_again v after keeps mirror (something before q s l i m) e =
       let same : before ≡ config = cc in
-      let valid : setting_of medium before (length image) ≡ Valid p = ap (λ (k : List ℕ). setting_of medium k (length image)) same ∙ setting in
+      let valid : setting_of medium before (length image) ≡ Some p = ap (λ (k : List ℕ). setting_of medium k (length image)) same ∙ setting in
       something before p (ap (setting_of medium before) keeps.len ∙ valid) (keeps.label 0 10 (omega arith) ∙ l)
       (label_same medium image after keeps ∙ i ∙ sym s ∙ valid) mirror
 
 module _ (medium : Medium) (entry : Drive) (image : List ℕ) (u : Disk) (drive : Drives medium entry image u) (p : Params) where
-  pub in_force_lem : (seen medium u).setting ≡ Valid p → InForce medium entry image u p
+  pub in_force_lem : (seen medium u).setting ≡ Some p → InForce medium entry image u p
   unfolding seen setting_in
   in_force_lem e =
       let k = known_valid medium entry.known entry.config (length image) p (setting_same medium entry image u drive ∙ e) in

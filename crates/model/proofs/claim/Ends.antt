@@ -15,8 +15,8 @@ use Rattle.geometry.specs.Medium.{medium_of}
 use Rattle.model.specs.declared.block.Block.{Block}
 use Rattle.model.specs.declared.record.Drive.{Drive}
 use Rattle.model.specs.declared.record.Ending.{Ending}
-use Rattle.model.specs.declared.verdict.Verdict.{Verdict}
-use Rattle.model.specs.declared.verdict.Verdict.TheVariants.{Refused, Faulty, Passed}
+use Rattle.model.specs.Verdicts.{Verdict}
+use Rattle.model.specs.Verdicts.{Refused, Faulty, Passed}
 use Rattle.model.specs.Sense.{addressed, sense_of}
 use Rattle.model.specs.Record.{sensed, refused, failed, good, unless, Effect, effect, Made, made, unless_named}
 use Rattle.model.specs.Commands.{as_effect}

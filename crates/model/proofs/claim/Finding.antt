@@ -12,10 +12,10 @@ use Rattle.geometry.specs.Params.{Within, image_length, track_count, track_of, s
 use Rattle.interleave.proofs.Slots.{slot_of}
 use Rattle.track.specs.declared.state.State.TheVariants.{Sound, Bad, Moved, Taken}
 use Rattle.track.specs.Image.{track_bytes, slot_data}
-use Rattle.track.specs.declared.find.Sector.TheVariants.{Slot, Fault}
+use Rattle.track.specs.Find.{Slot, Fault}
 use Rattle.track.specs.Find.{sector_found}
 use Rattle.formatter.proofs.Laws.{Formed, found_sound, found_moved, found_bad, found_taken}
-use Rattle.model.specs.declared.verdict.Verdict.TheVariants.{Faulty, Passed}
+use Rattle.model.specs.Verdicts.{Faulty, Passed}
 use Rattle.model.specs.Checks.{judged}
 use Rattle.model.specs.Machine.{Kind, stateless, sound, bad, moved, taken, is_bad, is_taken, denied}
 use Rattle.model.specs.Claim.{is_held}

@@ -4,8 +4,8 @@ use mathlib.Core.Path.{◌≡◌, refl, sym, ap, subst, ◌∙◌}
 use mathlib.Core.List.{List, []}
 use lib.ListN.{length}
 use Rattle.geometry.specs.declared.params.Params.{Params}
-use Rattle.geometry.specs.declared.config.Setting.{Setting}
-use Rattle.geometry.specs.declared.config.Setting.TheVariants.{Valid, Invalid}
+use Rattle.geometry.specs.Config.{Setting}
+use Rattle.std.specs.Prelude.{Some, None}
 use Rattle.geometry.specs.Medium.{medium_of}
 use Rattle.model.specs.declared.block.Block.{Block}
 use Rattle.model.specs.declared.table.Command.{Command}
@@ -19,7 +19,7 @@ use Rattle.model.specs.declared.table.TrackCommand.TheVariants.{FormatDrive, Che
 use Rattle.model.specs.declared.table.SectorCommand.TheVariants.{Read, Write}
 use Rattle.model.specs.declared.record.Drive.{Drive}
 use Rattle.model.specs.declared.verdict.View.{View}
-use Rattle.model.specs.declared.verdict.Verdict.TheVariants.{Passed}
+use Rattle.model.specs.Verdicts.{Passed}
 use Rattle.model.specs.Table.{is_among, check_number, TableRow, row_for}
 use Rattle.model.specs.Checks.{size_in, bytes_of, judge}
 use Rattle.model.specs.Record.{unless, effect}
@@ -91,8 +91,8 @@ module _ (b : Block) (given area : List ℕ) (entry : Drive) (buffer image : Lis
         → Follows b.drive area image m (carry_out b s given entry buffer image command) (carried b s given m (m.disks b.drive) command)
     unfolding carry_out carried seen
     carried_follows s e (Free command) is = free_follows s command e is
-    carried_follows Invalid e (OnDisk command) is = fault_follows b area image m entry buffer alike 0x0A b.address
-    carried_follows (Valid p) e (OnDisk command) is =
+    carried_follows None e (OnDisk command) is = fault_follows b area image m entry buffer alike 0x0A b.address
+    carried_follows (Some p) e (OnDisk command) is =
         disk_follows p (in_force_lem _ _ _ (m.disks b.drive) alike.drive p e) command
         (subst (λ (r : TableRow). Cleared r b p (m.disks b.drive).pending (length given)) (row (OnDisk command) is)
         (cleared b (seen (medium_of b.drive) (m.disks b.drive)) (length given) (length area) passed p e))

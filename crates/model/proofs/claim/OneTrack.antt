@@ -24,7 +24,7 @@ use Rattle.interleave.specs.Layout.{layout_of}
 use Rattle.track.specs.declared.state.State.TheVariants.{Sound, Bad}
 use Rattle.model.specs.declared.block.Block.{Block}
 use Rattle.model.specs.declared.record.Drive.{Drive}
-use Rattle.model.specs.declared.verdict.Verdict.TheVariants.{Passed}
+use Rattle.model.specs.Verdicts.{Passed}
 use Rattle.model.specs.Block.{from_buffer, keeps, alternate_of}
 use Rattle.model.specs.Checks.{judged}
 use Rattle.model.specs.Record.{good, made}

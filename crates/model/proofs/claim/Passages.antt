@@ -14,8 +14,8 @@ use Rattle.geometry.specs.declared.params.Params.{Params}
 use Rattle.geometry.specs.Params.{Within, image_length, address_count, OnDrive, further, next}
 use Rattle.track.specs.Image.{track_bytes, slot_data}
 use Rattle.sectors.specs.Transfer.{Transfer, begun, ended as ended_by, read_slot, write_slot, onward, found, reading, writing}
-use Rattle.model.specs.declared.verdict.Verdict.{Verdict}
-use Rattle.model.specs.declared.verdict.Verdict.TheVariants.{Refused, Faulty, Passed}
+use Rattle.model.specs.Verdicts.{Verdict}
+use Rattle.model.specs.Verdicts.{Refused, Faulty, Passed}
 use Rattle.model.specs.Machine.{Disk, Passage, storing, finished, with_first, passing, read_from, write_from, inARow, leaving}
 use Rattle.model.proofs.claim.Mirrors.{Mirrors, KeepsLabel}
 use Rattle.model.proofs.claim.Finding.{Found, goes, stops, found_by}

@@ -7,7 +7,7 @@ use mathlib.Core.List.{List}
 use lib.ListN.{length, replicate, length-replicate}
 use Rattle.base.specs.Pick.{pick}
 use Rattle.geometry.specs.declared.params.Params.{Params}
-use Rattle.geometry.specs.declared.config.Setting.TheVariants.{Valid, Invalid}
+use Rattle.std.specs.Prelude.{Some, None}
 use Rattle.geometry.specs.Medium.{medium_of}
 use Rattle.geometry.specs.Config.{label_config, label_setting}
 use Rattle.model.specs.declared.record.Controller.{Controller}
@@ -22,11 +22,11 @@ use Rattle.model.proofs.claim.Current.{stored_forced}
 use Rattle.model.specs.Block.{is_whole, block_length, is_copy}
 
 -- ---- the drives that Reset makes
-pub loaded_blank : (drive : ℕ) (image : List ℕ) → label_setting (medium_of drive) image ≡ Invalid → loaded drive image ≡ blank_drive
+pub loaded_blank : (drive : ℕ) (image : List ℕ) → label_setting (medium_of drive) image ≡ None → loaded drive image ≡ blank_drive
 unfolding loaded loaded_by
 loaded_blank drive image e = rw e
 
-pub loaded_known : (drive : ℕ) (image : List ℕ) (p : Params) → label_setting (medium_of drive) image ≡ Valid p
+pub loaded_known : (drive : ℕ) (image : List ℕ) (p : Params) → label_setting (medium_of drive) image ≡ Some p
     → loaded drive image ≡ record { sense = replicate 4 0; config = label_config image; known = true; pending = false }
 unfolding loaded loaded_by
 loaded_known drive image p e = rw e
@@ -78,7 +78,7 @@ module _ (images : List (List ℕ)) (m : Machine) where
   agree_reset c agree = reset_follows (λ d h. (agree.drives d h).drive.len) (λ d h. (agree.drives d h).drive.stored)
 
 -- a fresh machine is one after Reset
-module _ (images : List (List ℕ)) (none-stored : (d : ℕ) → d < 4 → label_setting (medium_of d) (image_of d images) ≡ Invalid) where
+module _ (images : List (List ℕ)) (none-stored : (d : ℕ) → d < 4 → label_setting (medium_of d) (image_of d images) ≡ None) where
   pub agree_fresh : Agrees (fresh images) (λ d. image_of d images) (begin_machine images)
   unfolding begin_machine fresh_machine fresh_disk step restored in_force is_whole block_length is_copy
   agree_fresh = reset_follows images (begin_machine images) (λ d h. refl) (λ d h. nothing (none-stored d h))

@@ -29,8 +29,8 @@ use Rattle.formatter.specs.Check.{check_code}
 use Rattle.formatter.proofs.Laws.{where_bad, state_formed, check_sound, check_moved, check_bad, check_taken}
 use Rattle.keeping.specs.Keep.{keep_code}
 use Rattle.keeping.proofs.Laws.{sound_code, missing_off}
-use Rattle.model.specs.declared.verdict.Verdict.{Verdict}
-use Rattle.model.specs.declared.verdict.Verdict.TheVariants.{Faulty, Passed}
+use Rattle.model.specs.Verdicts.{Verdict}
+use Rattle.model.specs.Verdicts.{Faulty, Passed}
 use Rattle.model.specs.Checks.{Test, on, judged}
 use Rattle.model.specs.Commands.{check_tests, alone_tests, assign_tests}
 use Rattle.model.specs.Machine.{Kind, stateless, sound, bad, moved, taken, is_bad, is_moved, is_taken, denied, paired, parted, parted_by, some_parted, unassignable}

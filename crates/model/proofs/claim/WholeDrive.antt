@@ -10,7 +10,7 @@ use Rattle.base.specs.Part.{part}
 use Rattle.geometry.specs.declared.params.Track.{Track}
 use Rattle.geometry.specs.declared.params.Params.{Params}
 use Rattle.geometry.specs.declared.medium.Medium.{Medium}
-use Rattle.geometry.specs.declared.config.Setting.TheVariants.{Valid}
+use Rattle.std.specs.Prelude.{Some}
 use Rattle.geometry.specs.Params.{track_count, track_of, track}
 use Rattle.geometry.specs.Medium.{medium_of}
 use Rattle.geometry.specs.Config.{setting_of, label_rest}
@@ -41,7 +41,7 @@ module _ (medium : Medium) (entry : Drive) (image : List ℕ) (u : Disk) (drive 
       → Drives medium (pending_ended entry) after (reformatted p s inter fill u)
   unfolding pending_ended reformatted
   drive_settled len label mirror =
-      let valid : setting_of medium entry.config (length after) ≡ Valid p = ap (setting_of medium entry.config) len ∙ force.setting in
+      let valid : setting_of medium entry.config (length after) ≡ Some p = ap (setting_of medium entry.config) len ∙ force.setting in
       let made = label_made medium entry.config after p label valid in
       record {
         len = drive.len ∙ sym len;

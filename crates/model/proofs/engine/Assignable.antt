@@ -25,7 +25,7 @@ use Rattle.contents.proofs.Laws.{NotTaken, FreeFor}
 use Rattle.keeping.specs.Keep.{keep_code, Keepable}
 use Rattle.keeping.proofs.Laws.{may_keep, keepable_code}
 use Rattle.model.specs.declared.block.Block.{Block}
-use Rattle.model.specs.declared.verdict.Verdict.TheVariants.{Passed}
+use Rattle.model.specs.Verdicts.{Passed}
 use Rattle.model.specs.Block.{keeps}
 use Rattle.model.specs.Checks.{judged}
 use Rattle.model.specs.Commands.{assign_tests, missing_in}

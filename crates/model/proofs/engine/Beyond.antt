@@ -8,8 +8,8 @@ use lib.ListN.{length}
 use Rattle.base.specs.Part.{part}
 use Rattle.geometry.specs.declared.params.Params.{Params}
 use Rattle.geometry.specs.declared.medium.Medium.{Medium}
-use Rattle.geometry.specs.declared.config.Setting.{Setting}
-use Rattle.geometry.specs.declared.config.Setting.TheVariants.{Valid, Invalid}
+use Rattle.geometry.specs.Config.{Setting}
+use Rattle.std.specs.Prelude.{Some, None}
 use Rattle.geometry.specs.Params.{Within, track_count, image_length, track_of}
 use Rattle.geometry.specs.Medium.{medium_of}
 use Rattle.geometry.specs.Config.{setting_of, label_rest}
@@ -29,8 +29,8 @@ use Rattle.model.specs.declared.table.SectorCommand.{SectorCommand}
 use Rattle.model.specs.declared.table.SectorCommand.TheVariants.{Read, Write}
 use Rattle.model.specs.declared.record.Drive.{Drive}
 use Rattle.model.specs.declared.record.Ending.{Ending}
-use Rattle.model.specs.declared.verdict.Verdict.{Verdict}
-use Rattle.model.specs.declared.verdict.Verdict.TheVariants.{Refused, Faulty, Passed}
+use Rattle.model.specs.Verdicts.{Verdict}
+use Rattle.model.specs.Verdicts.{Refused, Faulty, Passed}
 use Rattle.model.specs.Block.{count_of, alternate_of}
 use Rattle.model.specs.Table.{TableRow, check_number, is_among, row_for}
 use Rattle.model.specs.Checks.{bytes_of, size_in, judge}
@@ -60,8 +60,8 @@ module _ (b : Block) (given : List ℕ) (area : ℕ) (entry : Drive) (buffer ima
   abbrev medium : Medium
   medium = medium_of b.drive
 
-  module _ (p : Params) (valid : setting_in medium entry (length image) ≡ Valid p) where
-    setting : setting_of medium entry.config (length image) ≡ Valid p
+  module _ (p : Params) (valid : setting_in medium entry (length image) ≡ Some p) where
+    setting : setting_of medium entry.config (length image) ≡ Some p
     setting = setting_known medium entry (length image) p valid
 
     pub w : Within p
@@ -89,7 +89,7 @@ module _ (b : Block) (given : List ℕ) (area : ℕ) (entry : Drive) (buffer ima
       abbrev whole : List ℕ
       whole = drive_formatted b p entry.config (fill_of b p buffer) image
 
-      format_outside : (low : ℕ) → low ≡ 0 → Outside low (Valid p) image whole
+      format_outside : (low : ℕ) → low ≡ 0 → Outside low (Some p) image whole
       format_outside low none = drive_outside low (omega arith) b p w image fits _ _ ten (fill_most b p buffer) format_in none
 
       pub format_label : (length whole ≡ length image) × (part 0 16 whole ≡ entry.config ++ label_rest)
@@ -100,18 +100,18 @@ module _ (b : Block) (given : List ℕ) (area : ℕ) (entry : Drive) (buffer ima
     abbrev AfterIt : Setting → List ℕ → Type 0
     AfterIt s after = Outside low s image after
 
-    module _ (p : Params) (valid : setting_in medium entry (length image) ≡ Valid p) where
+    module _ (p : Params) (valid : setting_in medium entry (length image) ≡ Some p) where
       -- by own checks
-      own : (v : Verdict) (after : Made) → (v ≡ Passed → AfterIt (Valid p) after.image)
-          → AfterIt (Valid p) (unless v b.drive entry (λ e. made e image) after).image
+      own : (v : Verdict) (after : Made) → (v ≡ Passed → AfterIt (Some p) after.image)
+          → AfterIt (Some p) (unless v b.drive entry (λ e. made e image) after).image
       own v after =
-          unless_left (λ (x : Made). AfterIt (Valid p) x.image) v b.drive entry (λ e. made e image) after (λ e. outside_self low (Valid p) image)
+          unless_left (λ (x : Made). AfterIt (Some p) x.image) v b.drive entry (λ e. made e image) after (λ e. outside_self low (Some p) image)
 
       track_outside : (command : TrackCommand) → (row_for b.opcode).command ≡ OnDisk (TrackWork command)
-          → AfterIt (Valid p) (do_track b p buffer given entry image command).image
+          → AfterIt (Some p) (do_track b p buffer given entry image command).image
       unfolding do_track format_drive format_track assign_alternate row_for opcode_for is_among check_number
       track_outside FormatDrive is = own _ _ (λ ok. format_outside p valid is low (free is))
-      track_outside CheckTrack is = outside_self low (Valid p) image
+      track_outside CheckTrack is = outside_self low (Some p) image
       track_outside FormatTrack is =
           own _ _ (λ ok.
           made_outside low front b p (w p valid) image (fits p valid) _ _ _
@@ -129,18 +129,18 @@ module _ (b : Block) (given : List ℕ) (area : ℕ) (entry : Drive) (buffer ima
           (λ keep. keepable p image fit b.address (alternate_of given) _ r here (missing_kept b p _ image keep r.none_missing)))
 
       sectors_outside : (command : SectorCommand) → (row_for b.opcode).command ≡ OnDisk (SectorWork command)
-          → AfterIt (Valid p) (do_sectors b p given entry buffer image command).image
+          → AfterIt (Some p) (do_sectors b p given entry buffer image command).image
       unfolding do_sectors read write transferred begun row_for opcode_for is_among check_number bytes_of size_in
-      sectors_outside Read is = rw (read_image (count_of b) b.address p (begun image)) (outside_self low (Valid p) image)
+      sectors_outside Read is = rw (read_image (count_of b) b.address p (begun image)) (outside_self low (Some p) image)
       sectors_outside Write is =
           let ours = clear p valid (OnDisk (SectorWork Write)) is in
           outside_less low _ 16 front _ _ (writes p (w p valid) (count_of b) b.address given (begun image) (fits p valid)
           (count_cleared (w p valid) ours refl refl) ours.enough).outside
 
       disk_outside : (command : DiskCommand) → (row_for b.opcode).command ≡ OnDisk command
-          → AfterIt (Valid p) (do_disk b p given entry buffer image command).image
+          → AfterIt (Some p) (do_disk b p given entry buffer image command).image
       unfolding do_disk as_effect
-      disk_outside (ArmWork command) is = outside_self low (Valid p) image
+      disk_outside (ArmWork command) is = outside_self low (Some p) image
       disk_outside (TrackWork command) is = track_outside command is
       disk_outside (SectorWork command) is = sectors_outside command is
 
@@ -155,8 +155,8 @@ module _ (b : Block) (given : List ℕ) (area : ℕ) (entry : Drive) (buffer ima
         → AfterIt s (carry_out b s given entry buffer image command).image
     unfolding carry_out
     carried_outside s e (Free command) is = free_outside s command
-    carried_outside Invalid e (OnDisk command) is = outside_self low Invalid image
-    carried_outside (Valid p) e (OnDisk command) is = disk_outside p e command is
+    carried_outside None e (OnDisk command) is = outside_self low None image
+    carried_outside (Some p) e (OnDisk command) is = disk_outside p e command is
     carried_outside s e Unknown is = outside_self low s image
     carried_outside s e Copy is = outside_self low s image
 

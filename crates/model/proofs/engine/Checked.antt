@@ -10,8 +10,8 @@ use Rattle.base.specs.Pick.{pick}
 use Rattle.base.proofs.Bools.{or_off}
 use Rattle.base.proofs.Decide.{pick_true, pick-false}
 use Rattle.geometry.specs.declared.params.Params.{Params}
-use Rattle.geometry.specs.declared.config.Setting.{Setting}
-use Rattle.geometry.specs.declared.config.Setting.TheVariants.{Valid}
+use Rattle.geometry.specs.Config.{Setting}
+use Rattle.std.specs.Prelude.{Some}
 use Rattle.geometry.specs.Params.{Within, track_count, track_of, last_address, address_count}
 use Rattle.geometry.proofs.Sizes.{sectors_some}
 use Rattle.geometry.proofs.Addresses.{track_in}
@@ -24,7 +24,7 @@ use Rattle.model.specs.declared.table.ArmCommand.TheVariants.{TestReady, Recalib
 use Rattle.model.specs.declared.table.TrackCommand.TheVariants.{FormatDrive, CheckTrack, FormatTrack, FormatBadTrack, AssignAlternate}
 use Rattle.model.specs.declared.table.SectorCommand.TheVariants.{Read, Write}
 use Rattle.model.specs.declared.verdict.View.{View}
-use Rattle.model.specs.declared.verdict.Verdict.TheVariants.{Passed}
+use Rattle.model.specs.Verdicts.{Passed}
 use Rattle.model.specs.Block.{count_of}
 use Rattle.model.specs.Table.{Interleave, Address, Counted, Settled, SparedWhole, TableRow, applies, table, unknown, row_for}
 use Rattle.model.specs.Checks.{with_params, interleave_wrong, past_end, not_spared, bytes_of, reach_of, hits_of, in_order, judge_over, judge}
@@ -69,7 +69,7 @@ pub record ClearedOver (e : TableRow) (b : Block) (reach : ℕ) (p : Params) (pe
   pub interleave : (applies Interleave e && interleave_wrong b.extra p) ≡ false
   pub address : (applies Address e && past_end b.address reach p) ≡ false
   pub unpended : (pending && (applies Settled e && not_spared (applies SparedWhole e) b.address p)) ≡ false
-  pub enough : bytes_of e.takes b (Valid p) ≤ given
+  pub enough : bytes_of e.takes b (Some p) ≤ given
 
 -- of a command of six bytes, with the reach of its row
 abbrev pub Cleared : TableRow → Block → Params → (pending : Bool) → (given : ℕ) → Type 0
@@ -104,12 +104,12 @@ module _ (b : Block) (reach : ℕ) (v : View) (given area : ℕ) (passed : judge
   pub area_over : bytes_of (row_for b.opcode).gives b v.setting ≤ area
   area_over = nine.handed
 
-  asked : (p : Params) → v.setting ≡ Valid p → (applied : Bool) (ask : Params → Bool) → (applied && with_params v.setting ask) ≡ false
+  asked : (p : Params) → v.setting ≡ Some p → (applied : Bool) (ask : Params → Bool) → (applied && with_params v.setting ask) ≡ false
       → (applied && ask p) ≡ false
   unfolding with_params
   asked p valid applied ask h = subst (λ (s : Setting). (applied && with_params s ask) ≡ false) valid h
 
-  pub cleared_over : (p : Params) → v.setting ≡ Valid p → ClearedOver (row_for b.opcode) b reach p v.pending given
+  pub cleared_over : (p : Params) → v.setting ≡ Some p → ClearedOver (row_for b.opcode) b reach p v.pending given
   unfolding with_params
   cleared_over p valid =
       let e = row_for b.opcode in
@@ -129,7 +129,7 @@ module _ (b : Block) (v : View) (given area : ℕ) (passed : judge b v given are
   unfolding judge
   area_enough = area_over b _ v given area passed
 
-  pub cleared : (p : Params) → v.setting ≡ Valid p → Cleared (row_for b.opcode) b p v.pending given
+  pub cleared : (p : Params) → v.setting ≡ Some p → Cleared (row_for b.opcode) b p v.pending given
   unfolding judge
   cleared = cleared_over b _ v given area passed
 

@@ -12,8 +12,8 @@ use Rattle.base.specs.Pick.{pick}
 use Rattle.geometry.specs.declared.params.Lba.{Lba}
 use Rattle.geometry.specs.declared.params.Params.{Params}
 use Rattle.geometry.specs.declared.medium.Medium.{Medium}
-use Rattle.geometry.specs.declared.config.Setting.{Setting}
-use Rattle.geometry.specs.declared.config.Setting.TheVariants.{Valid, Invalid}
+use Rattle.geometry.specs.Config.{Setting}
+use Rattle.std.specs.Prelude.{Some, None}
 use Rattle.geometry.specs.Params.{address_count}
 use Rattle.geometry.specs.Medium.{medium_of}
 use Rattle.geometry.proofs.Settings.{setting_within, setting_some}
@@ -25,9 +25,9 @@ use Rattle.model.specs.declared.block.Block.{Block}
 use Rattle.model.specs.declared.block.CopyBlock.{CopyBlock}
 use Rattle.model.specs.declared.record.Drive.{Drive}
 use Rattle.model.specs.declared.verdict.View.{View}
-use Rattle.model.specs.declared.verdict.Verdict.{Verdict}
-use Rattle.model.specs.declared.verdict.Verdict.TheVariants.{Refused, Faulty, Passed}
-use Rattle.model.specs.declared.verdict.Judgement.{Judgement}
+use Rattle.model.specs.Verdicts.{Verdict}
+use Rattle.model.specs.Verdicts.{Refused, Faulty, Passed}
+use Rattle.model.specs.Verdicts.{Judgement}
 use Rattle.model.specs.Block.{count_of}
 use Rattle.model.specs.Table.{Address, Counted, Settled, SparedWhole, check_number, is_among, applies, row_for}
 use Rattle.model.specs.Checks.{on, judged, reach_of, in_order, judge_over, judge, filling_of, shares, saying_of, judge_copy}
@@ -40,7 +40,7 @@ use Rattle.model.proofs.engine.Leaving.{Verdicts, fault, pass, copy_judge_by}
 
 -- ---- One drive's row of checks, passed
 module _ (b : Block) (reach : ℕ) (v : View) (is : b.opcode ≡ 0x20) (passed : judge_over b reach v 0 0 ≡ Passed)
-    (p : Params) (valid : v.setting ≡ Valid p) where
+    (p : Params) (valid : v.setting ≡ Some p) where
   has : applies Address (row_for b.opcode) ≡ true
   unfolding row_for is_among check_number
   has = ap (λ (opcode : ℕ). applies Address (row_for opcode)) is
@@ -140,7 +140,7 @@ unfolding shares
 not_shared k n m off same =
     apart_by k.from.address.0 k.to.address.0 n m _ _ refl refl (rw (eq-eqb k.from.drive k.to.drive same) at off)
 
-its_fits : (medium : Medium) (entry : Drive) (image : List ℕ) (p : Params) → setting_in medium entry (length image) ≡ Valid p
+its_fits : (medium : Medium) (entry : Drive) (image : List ℕ) (p : Params) → setting_in medium entry (length image) ≡ Some p
     → Fits p image × (0 < p.size)
 its_fits medium entry image p valid =
     let known = setting_known medium entry (length image) p valid in
@@ -160,20 +160,20 @@ module _ (k : CopyBlock) (source target : Drive) (images : List (List ℕ)) (fro
 
   -- the parameters of both drives, and that no sector is pending, past an end, or shared
   pub record Copies (p q : Params) : Type 0 where
-    pub source_valid : setting_in (medium_of k.from.drive) source (length S) ≡ Valid p
-    pub target_valid : setting_in (medium_of k.to.drive) target (length T) ≡ Valid q
+    pub source_valid : setting_in (medium_of k.from.drive) source (length S) ≡ Some p
+    pub target_valid : setting_in (medium_of k.to.drive) target (length T) ≡ Some q
     pub source_settled : source.pending ≡ false
     pub target_settled : target.pending ≡ false
     pub fitting : Fitting (route_of k p q) n images
 
-  module _ (p q : Params) (sp : setting_in (medium_of k.from.drive) source (length S) ≡ Valid p)
-      (sq : setting_in (medium_of k.to.drive) target (length T) ≡ Valid q)
+  module _ (p q : Params) (sp : setting_in (medium_of k.from.drive) source (length S) ≡ Some p)
+      (sq : setting_in (medium_of k.to.drive) target (length T) ≡ Some q)
       (one : judge_over k.from n (view_of (medium_of k.from.drive) source (length S)) 0 0 ≡ Passed)
       (two : judge_over k.to (filled_by n p.size q.size) (view_of (medium_of k.to.drive) target (length T)) 0 0 ≡ Passed)
       (three : shares k n (filled_by n p.size q.size) ≡ false) where
     same_params : k.from.drive ≡ k.to.drive → p ≡ q
     same_params e =
-        let z : Valid p ≡ Valid q = sym sp ∙ rw (e, one_drive e) sq in
+        let z : Some p ≡ Some q = sym sp ∙ rw (e, one_drive e) sq in
         cc
 
     pub passed_copies : Copies p q
@@ -215,9 +215,9 @@ module _ (k : CopyBlock) (source target : Drive) (images : List (List ℕ)) (fro
         → judge_over k.from n v 0 0 ≡ Passed → judge_over k.to (filling_of n s t) w 0 0 ≡ Passed → shares k n (filling_of n s t) ≡ false
         → CopyObeyed buffer (copy_with k s t source buffer images)
     unfolding copy_with filling_of
-    passed_obeyed Invalid t es et one two three = copy_failed k.from.drive 0x0A k.from.address (omega arith, omega arith)
-    passed_obeyed (Valid p) Invalid es et one two three = copy_failed k.to.drive 0x0A k.to.address (omega arith, omega arith)
-    passed_obeyed (Valid p) (Valid q) es et one two three = copy_done p q (passed_copies p q es et one two three)
+    passed_obeyed None t es et one two three = copy_failed k.from.drive 0x0A k.from.address (omega arith, omega arith)
+    passed_obeyed (Some p) None es et one two three = copy_failed k.to.drive 0x0A k.to.address (omega arith, omega arith)
+    passed_obeyed (Some p) (Some q) es et one two three = copy_done p q (passed_copies p q es et one two three)
 
     judged_obeyed : {said : Judgement} → CopyJudged k v w said
         → CopyObeyed buffer

@@ -13,15 +13,15 @@ use borrow.Author.Tests.{eqb-true}
 use Rattle.base.specs.Part.{splice}
 use Rattle.geometry.specs.declared.params.Lba.{Lba}
 use Rattle.geometry.specs.declared.params.Params.{Params}
-use Rattle.geometry.specs.declared.config.Setting.TheVariants.{Valid}
+use Rattle.std.specs.Prelude.{Some}
 use Rattle.geometry.specs.Params.{further}
 use Rattle.geometry.specs.Medium.{medium_of}
 use Rattle.sectors.specs.Transfer.{Transfer, begun}
 use Rattle.contents.specs.Content.{Bytes, content_of}
 use Rattle.contents.proofs.Laws.{put_all, writing_puts}
 use Rattle.copying.specs.declared.route.Route.{Route}
-use Rattle.copying.specs.declared.route.End.{End}
-use Rattle.copying.specs.declared.route.End.TheVariants.{Going, SourceFault, TargetFault, Short}
+use Rattle.copying.specs.Ends.{End}
+use Rattle.copying.specs.Ends.{Going, SourceFault, TargetFault, Short}
 use Rattle.copying.specs.Copying.{Copying, copied}
 use Rattle.copying.specs.Listwise.{read_all, sectors_for, Fitting}
 use Rattle.copying.proofs.Laws.{copied_listwise, copied_target, copied_others, last_none, last_reads, given_all}
@@ -153,7 +153,7 @@ module _ (r : Route) (n : ℕ) (images : List (List ℕ)) (fit : Fitting r n ima
   x = read_all r n images
 
   -- the destination's: outside its tracks all is as before
-  target_outside : Outside 16 (Valid r.q) (image_of r.target images) (image_of r.target (copied r n images).images)
+  target_outside : Outside 16 (Some r.q) (image_of r.target images) (image_of r.target (copied r n images).images)
   unfolding begun
   target_outside =
       let enough = given_all r n images fit in
@@ -192,7 +192,7 @@ pub record CopyLeaves (k : CopyBlock) (c : Controller) (area : List ℕ) (images
   pub buffer_none : r.outcome.answer.sectors ≡ 0 → r.outcome.controller.buffer ≡ c.buffer
   pub buffer_front : (m : ℕ) → r.outcome.answer.sectors ≡ suc m
       → (q : Params) × (last : List ℕ)
-      × (setting_in (medium_of k.to.drive) (drive_at c k.to.drive) (length (image_of k.to.drive images)) ≡ Valid q)
+      × (setting_in (medium_of k.to.drive) (drive_at c k.to.drive) (length (image_of k.to.drive images)) ≡ Some q)
       × (content_of q (further k.to.address m) (image_of k.to.drive r.images) ≡ Bytes last)
       × (r.outcome.controller.buffer ≡ splice 0 last c.buffer)
 

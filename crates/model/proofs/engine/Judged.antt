@@ -7,8 +7,8 @@ use native.Mathlib.Omega.{arith}
 use Rattle.base.specs.Pick.{pick}
 use Rattle.base.proofs.Decide.{pick_true, pick-false}
 use Rattle.geometry.specs.declared.params.Lba.{Lba}
-use Rattle.model.specs.declared.verdict.Verdict.{Verdict}
-use Rattle.model.specs.declared.verdict.Verdict.TheVariants.{Refused, Faulty, Passed}
+use Rattle.model.specs.Verdicts.{Verdict}
+use Rattle.model.specs.Verdicts.{Refused, Faulty, Passed}
 use Rattle.model.specs.Checks.{Test, judged}
 
 abbrev test : Bool → Verdict → Test

@@ -12,13 +12,13 @@ use Rattle.base.specs.Part.{part, splice}
 use Rattle.base.proofs.Decide.{pick-both}
 use Rattle.geometry.specs.declared.params.Lba.{Lba}
 use Rattle.geometry.specs.declared.params.Params.{Params}
-use Rattle.geometry.specs.declared.config.Setting.{Setting}
-use Rattle.geometry.specs.declared.config.Setting.TheVariants.{Valid, Invalid}
+use Rattle.geometry.specs.Config.{Setting}
+use Rattle.std.specs.Prelude.{Some, None}
 use Rattle.geometry.specs.Params.{next, further, track_of}
 use Rattle.geometry.specs.Medium.{medium_of}
 use Rattle.geometry.specs.Config.{label_holds}
-use Rattle.track.specs.declared.find.Sector.{Sector}
-use Rattle.track.specs.declared.find.Sector.TheVariants.{Slot, Fault}
+use Rattle.track.specs.Find.{Sector}
+use Rattle.track.specs.Find.{Slot, Fault}
 use Rattle.interleave.specs.Layout.{layout_of}
 use Rattle.formatter.specs.Check.{check_code}
 use Rattle.sectors.specs.Transfer.{Transfer, begun, ended, read_slot, write_slot, onward, found, reading, writing}
@@ -41,8 +41,8 @@ use Rattle.model.specs.declared.record.Drive.{Drive}
 use Rattle.model.specs.declared.record.Controller.{Controller}
 use Rattle.model.specs.declared.record.Ending.{Ending}
 use Rattle.model.specs.declared.verdict.View.{View}
-use Rattle.model.specs.declared.verdict.Verdict.{Verdict}
-use Rattle.model.specs.declared.verdict.Verdict.TheVariants.{Refused, Faulty, Passed}
+use Rattle.model.specs.Verdicts.{Verdict}
+use Rattle.model.specs.Verdicts.{Refused, Faulty, Passed}
 use Rattle.model.specs.Block.{count_of, alternate_of}
 use Rattle.model.specs.Table.{row_for}
 use Rattle.model.specs.Checks.{Test, on, refuses, judged, bytes_of, hits_of, in_order, judge_over, judge}
@@ -378,8 +378,8 @@ module _ (b : Block) (given : List ℕ) (entry : Drive) (buffer image : List ℕ
   carried_ends : (s : Setting) (command : Command) → LeavesAs command (carry_out b s given entry buffer image command)
   unfolding carry_out
   carried_ends s (Free command) = free_ends command
-  carried_ends Invalid (OnDisk command) = faulty (OnDisk command) 0x0A b.address (omega arith)
-  carried_ends (Valid p) (OnDisk command) = disk_ends p command
+  carried_ends None (OnDisk command) = faulty (OnDisk command) 0x0A b.address (omega arith)
+  carried_ends (Some p) (OnDisk command) = disk_ends p command
   carried_ends s Unknown = faulty Unknown 0x20 b.address (omega arith)
   carried_ends s Copy = faulty Copy 0x20 b.address (omega arith)
 

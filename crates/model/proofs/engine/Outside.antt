@@ -15,8 +15,8 @@ use Rattle.base.proofs.Parts.{length_splice, part_same, part_before, part_after,
 use Rattle.geometry.specs.declared.params.Track.{Track}
 use Rattle.geometry.specs.declared.params.Params.{Params}
 use Rattle.geometry.specs.declared.medium.Medium.{Medium}
-use Rattle.geometry.specs.declared.config.Setting.{Setting}
-use Rattle.geometry.specs.declared.config.Setting.TheVariants.{Valid, Invalid}
+use Rattle.geometry.specs.Config.{Setting}
+use Rattle.std.specs.Prelude.{Some, None}
 use Rattle.geometry.specs.Params.{Within, track_count, track_size, image_length, track_start, track_of, next_track}
 use Rattle.geometry.specs.Medium.{medium_of}
 use Rattle.geometry.specs.Config.{label_rest}
@@ -38,8 +38,8 @@ use Rattle.model.specs.Commands.{plain_byte, plain_fill, fill_of, made_at, drive
 pub record Outside (low : ℕ) (s : Setting) (before after : List ℕ) : Type 0 where
   pub len : length after ≡ length before
   pub below : (at size : ℕ) → at + size ≤ low → part at size after ≡ part at size before
-  pub past : (p : Params) → s ≡ Valid p → (at size : ℕ) → image_length p ≤ at → part at size after ≡ part at size before
-  pub all : s ≡ Invalid → after ≡ before
+  pub past : (p : Params) → s ≡ Some p → (at size : ℕ) → image_length p ≤ at → part at size after ≡ part at size before
+  pub all : s ≡ None → after ≡ before
 
 module _ (low : ℕ) (s : Setting) where
   pub outside_self : (image : List ℕ) → Outside low s image image
@@ -58,7 +58,7 @@ module _ (low : ℕ) (s : Setting) where
 
 -- ---- Bytes put between them
 module _ (low : ℕ) (p : Params) (image : List ℕ) (fits : image_length p ≤ length image) where
-  splice_outside : (at : ℕ) (bytes : List ℕ) → low ≤ at → at + length bytes ≤ image_length p → Outside low (Valid p) image (splice at bytes image)
+  splice_outside : (at : ℕ) (bytes : List ℕ) → low ≤ at → at + length bytes ≤ image_length p → Outside low (Some p) image (splice at bytes image)
   splice_outside at bytes l h = record {
     len = length_splice at bytes image (omega arith);
     below = λ b size k. part_before b size at bytes image (omega arith) (omega arith);
@@ -68,11 +68,11 @@ module _ (low : ℕ) (p : Params) (image : List ℕ) (fits : image_length p ≤ 
     all = λ is. absurd (let z : ◌≡◌ {A = ℕ} 0 1 = cc in omega arith);
   }
 
-  label_outside : low ≡ 0 → (config : List ℕ) → length config ≡ 10 → Outside low (Valid p) image (splice 0 (config ++ label_rest) image)
+  label_outside : low ≡ 0 → (config : List ℕ) → length config ≡ 10 → Outside low (Some p) image (splice 0 (config ++ label_rest) image)
   label_outside none config l = splice_outside 0 (config ++ label_rest) (omega arith) (omega (arith, sixteen config l))
 
   pub track_outside : low ≤ 16 → (t : Track) (bytes : List ℕ) → t.0 < track_count p → length bytes ≤ track_size p
-      → Outside low (Valid p) image (with_track p t bytes image)
+      → Outside low (Some p) image (with_track p t bytes image)
   unfolding with_track
   track_outside front t bytes h l =
       splice_outside (track_start p t) bytes (omega arith) (omega (arith, cell_in (track_size p) t.0 (track_count p) h))
@@ -80,16 +80,16 @@ module _ (low : ℕ) (p : Params) (image : List ℕ) (fits : image_length p ≤ 
 -- a formatted track is no longer than a track, whatever the fill is cut to
 module _ (low : ℕ) (front : low ≤ 16) (p : Params) (map fill : List ℕ) (lm : length map ≡ p.sectors) (lf : length fill ≤ p.size) where
   formatted_outside : (image : List ℕ) → image_length p ≤ length image → (t : Track) (state : State) → t.0 < track_count p
-      → Outside low (Valid p) image (with_track p t (formatted p t state map fill) image)
+      → Outside low (Some p) image (with_track p t (formatted p t state map fill) image)
   formatted_outside image fits t state h = track_outside low p image fits front t (formatted p t state map fill) h (formatted_most p map fill lm lf t state)
 
   sound_outside : (n : ℕ) (t : Track) (image : List ℕ) → image_length p ≤ length image → t.0 + n ≤ track_count p
-      → Outside low (Valid p) image (sound_from p map fill n t image)
+      → Outside low (Some p) image (sound_from p map fill n t image)
   unfolding sound_from
-  sound_outside zero t image fits h = outside_self low (Valid p) image
+  sound_outside zero t image fits h = outside_self low (Some p) image
   sound_outside (suc n) t image fits h =
       let one = formatted_outside image fits t Sound (omega arith) in
-      outside_then low (Valid p) image _ _ one (sound_outside n (next_track t) _ (rw one.len fits) (omega arith))
+      outside_then low (Some p) image _ _ one (sound_outside n (next_track t) _ (rw one.len fits) (omega arith))
 
 -- ---- What fills a track is no longer than D
 take_most : (n : ℕ) (l : List ℕ) → length (take n l) ≤ n
@@ -113,20 +113,20 @@ module _ (low : ℕ) (front : low ≤ 16) (b : Block) (p : Params) (w : Within p
 
   -- one track, and two
   pub made_outside : (image : List ℕ) → image_length p ≤ length image → (t : Track) (state : State) (fill : List ℕ) → t.0 < track_count p
-      → length fill ≤ p.size → Outside low (Valid p) image (made_at b p t state fill image)
+      → length fill ≤ p.size → Outside low (Some p) image (made_at b p t state fill image)
   unfolding made_at
   made_outside image fits t state fill h l = formatted_outside low front p (layout_of p.sectors b.extra) fill map_length l image fits t state h
 
   module _ (image : List ℕ) (fits : image_length p ≤ length image) where
     assigned_outside : (A B : Track) (fill : List ℕ) → A.0 < track_count p → B.0 < track_count p → length fill ≤ p.size
-        → Outside low (Valid p) image (assigned b p A B fill image)
+        → Outside low (Some p) image (assigned b p A B fill image)
     unfolding assigned
     assigned_outside A B fill ha hb l =
         let one = made_outside image fits A (Moved B) (plain_fill (medium_of b.drive) p) ha (plain_most (medium_of b.drive) p) in
-        outside_then low (Valid p) image _ _ one (made_outside _ (rw one.len fits) B (Taken A) fill hb l)
+        outside_then low (Some p) image _ _ one (made_outside _ (rw one.len fits) B (Taken A) fill hb l)
 
     -- a track moved with its contents
-    kept_outside : (A B : Track) → Keepable p A B image → Outside low (Valid p) image (kept p A B (layout_of p.sectors b.extra) image)
+    kept_outside : (A B : Track) → Keepable p A B image → Outside low (Some p) image (kept p A B (layout_of p.sectors b.extra) image)
     kept_outside A B may =
         let map = layout_of p.sectors b.extra in
         let fit : Fits p image = record { within = w; long = fits } in
@@ -142,12 +142,12 @@ module _ (low : ℕ) (front : low ≤ 16) (b : Block) (p : Params) (w : Within p
         }
 
     pub alternated_outside : (A B : Track) (buffer : List ℕ) → A.0 < track_count p → B.0 < track_count p → (keeps b ≡ true → Keepable p A B image)
-        → Outside low (Valid p) image (alternated b p A B buffer image)
+        → Outside low (Some p) image (alternated b p A B buffer image)
     unfolding alternated pick
     alternated_outside A B buffer ha hb may = by (keeps b) refl
       where
         by : (k : Bool) → keeps b ≡ k
-            → Outside low (Valid p) image (pick k (kept p A B (layout_of p.sectors b.extra) image) (assigned b p A B (fill_of b p buffer) image))
+            → Outside low (Some p) image (pick k (kept p A B (layout_of p.sectors b.extra) image) (assigned b p A B (fill_of b p buffer) image))
         by true e = kept_outside A B (may e)
         by false e = assigned_outside A B (fill_of b p buffer) ha hb (fill_most b p buffer)
 
@@ -156,12 +156,12 @@ module _ (low : ℕ) (front : low ≤ 16) (b : Block) (p : Params) (w : Within p
       abbrev first : Track
       first = track_of p b.address
 
-      swept : Outside low (Valid p) image (sound_from p (layout_of p.sectors b.extra) fill (track_count p - first.0) first image)
+      swept : Outside low (Some p) image (sound_from p (layout_of p.sectors b.extra) fill (track_count p - first.0) first image)
       swept = sound_outside low front p (layout_of p.sectors b.extra) fill map_length l (track_count p - first.0) first image fits (omega arith)
 
-      pub drive_outside : low ≡ 0 → Outside low (Valid p) image (drive_formatted b p config fill image)
+      pub drive_outside : low ≡ 0 → Outside low (Some p) image (drive_formatted b p config fill image)
       unfolding drive_formatted
-      drive_outside none = outside_then low (Valid p) image _ _ swept (label_outside low p _ (rw swept.len fits) none config ten)
+      drive_outside none = outside_then low (Some p) image _ _ swept (label_outside low p _ (rw swept.len fits) none config ten)
 
 -- what Format Drive writes to the label, and the length
 module _ (b : Block) (p : Params) (w : Within p) (image : List ℕ) (fits : image_length p ≤ length image) (config fill : List ℕ)

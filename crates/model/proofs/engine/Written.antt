@@ -10,12 +10,12 @@ use lib.Seq.{length-take-le}
 use Rattle.geometry.specs.declared.params.Lba.{Lba}
 use Rattle.geometry.specs.declared.params.Track.{Track}
 use Rattle.geometry.specs.declared.params.Params.{Params}
-use Rattle.geometry.specs.declared.config.Setting.TheVariants.{Valid}
+use Rattle.std.specs.Prelude.{Some}
 use Rattle.geometry.specs.Params.{Within, track_count, track_size, image_length, track_of, address_count, OnDrive, further, next}
 use Rattle.geometry.proofs.Addresses.{track_in, same_track, further_next}
 use Rattle.track.specs.Image.{track_bytes, with_track, slot_id, slot_data, with_data}
-use Rattle.track.specs.declared.find.Sector.{Sector}
-use Rattle.track.specs.declared.find.Sector.TheVariants.{Slot, Fault}
+use Rattle.track.specs.Find.{Sector}
+use Rattle.track.specs.Find.{Slot, Fault}
 use Rattle.track.proofs.Laws.{length_track, track_same, track_other, length_with_data, data_other, SameIds, found_same, data_keeps}
 use Rattle.sectors.specs.Transfer.{Transfer, ended, write_slot, onward, found, writing}
 use Rattle.sectors.proofs.Laws.{found_slot}
@@ -27,13 +27,13 @@ abbrev Finds : Params → Lba → (i : ℕ) → (image : List ℕ) → (t : Trac
 Finds p a i image t k = found p (further a i) image ≡ Slot t k
 
 pub record Written (p : Params) (n : ℕ) (a : Lba) (before after : List ℕ) : Type 0 where
-  pub outside : Outside 16 (Valid p) before after
+  pub outside : Outside 16 (Some p) before after
   pub ids : (t : Track) (k : ℕ) → t.0 < track_count p → k < p.sectors → slot_id p k (track_bytes p t after) ≡ slot_id p k (track_bytes p t before)
   pub others : (t : Track) (k : ℕ) → t.0 < track_count p → k < p.sectors → ((i : ℕ) → i < n → Finds p a i before t k → ⊥)
       → slot_data p k (track_bytes p t after) ≡ slot_data p k (track_bytes p t before)
 
 pub written_none : (p : Params) (n : ℕ) (a : Lba) (image : List ℕ) → Written p n a image image
-written_none p n a image = record { outside = outside_self 16 (Valid p) image; ids = λ t k ht hk. refl; others = λ t k ht hk no. refl }
+written_none p n a image = record { outside = outside_self 16 (Some p) image; ids = λ t k ht hk. refl; others = λ t k ht hk no. refl }
 
 -- one sector in slot j of track u
 module _ (p : Params) (image : List ℕ) (fits : image_length p ≤ length image) (u : Track) (j : ℕ) (hu : u.0 < track_count p) (hj : j < p.sectors)
@@ -47,7 +47,7 @@ module _ (p : Params) (image : List ℕ) (fits : image_length p ≤ length image
   lw : length (with_data p j sector (track_bytes p u image)) ≡ track_size p
   lw = length_with_data p (track_bytes p u image) lt j sector hj ls
 
-  stored_outside : Outside 16 (Valid p) image stored
+  stored_outside : Outside 16 (Some p) image stored
   stored_outside = track_outside 16 p image fits (omega arith) u _ hu (omega (arith, lw))
 
   stored_ids : SameIds p stored image
@@ -89,7 +89,7 @@ module _ (p : Params) (w : Within p) where
 
     written_more : (after : List ℕ) → Written p n (next a) now after → Written p (suc n) a image after
     written_more after rest = record {
-      outside = outside_then 16 (Valid p) image now after (stored_outside p image fits u j hu hj sector ls) rest.outside;
+      outside = outside_then 16 (Some p) image now after (stored_outside p image fits u j hu hj sector ls) rest.outside;
       ids = λ t k ht hk. rest.ids t k ht hk ∙ (stored_ids p image fits u j hu hj sector ls).ids t k ht hk;
       others = λ t k ht hk no.
           rest.others t k ht hk (λ i l q. no (suc i) (omega arith) (later i t k l q))

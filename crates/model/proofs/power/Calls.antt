@@ -9,7 +9,7 @@ use lib.ListN.{length, get_or-eq_default}
 use Rattle.base.specs.Pick.{pick}
 use Rattle.base.specs.Part.{splice}
 use Rattle.geometry.specs.declared.params.Params.{Params}
-use Rattle.geometry.specs.declared.config.Setting.TheVariants.{Valid}
+use Rattle.std.specs.Prelude.{Some}
 use Rattle.geometry.specs.Medium.{medium_of}
 use Rattle.model.specs.declared.block.Block.{Block}
 use Rattle.model.specs.declared.record.Drive.{Drive}
@@ -43,11 +43,11 @@ module _ (c : Controller) (block given area : List ℕ) (images : List (List ℕ
       ∙ own_entry b.drive effect c area images h
 
 -- a drive with parameters in force has an entry
-pub has_entry : (c : Controller) (d image : ℕ) (p : Params) → setting_in (medium_of d) (drive_at c d) image ≡ Valid p → d < length c.drives
+pub has_entry : (c : Controller) (d image : ℕ) (p : Params) → setting_in (medium_of d) (drive_at c d) image ≡ Some p → d < length c.drives
 unfolding drive_at setting_in blank_drive pick
 has_entry c d image p force = by (dec_lt d (length c.drives))
   where
-    blank : setting_in (medium_of d) blank_drive image ≡ Valid p → ⊥
+    blank : setting_in (medium_of d) blank_drive image ≡ Some p → ⊥
     blank e = let z : ◌≡◌ {A = ℕ} 0 1 = cc in omega arith
 
     by : Dec (d < length c.drives) → d < length c.drives

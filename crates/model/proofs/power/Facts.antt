@@ -24,7 +24,7 @@ use Rattle.model.specs.declared.table.DiskCommand.TheVariants.{TrackWork}
 use Rattle.model.specs.declared.table.TrackCommand.TheVariants.{AssignAlternate}
 use Rattle.model.specs.declared.record.Drive.{Drive}
 use Rattle.model.specs.declared.record.Controller.{Controller}
-use Rattle.model.specs.declared.verdict.Verdict.TheVariants.{Passed}
+use Rattle.model.specs.Verdicts.{Passed}
 use Rattle.model.specs.Block.{block_of, is_copy, is_whole, alternate_of}
 use Rattle.model.specs.Table.{row_for}
 use Rattle.model.specs.Checks.{judged, judge}

@@ -7,7 +7,7 @@ use Rattle.geometry.specs.declared.params.Params.{Params}
 use Rattle.geometry.specs.Params.{OnDrive, track_of}
 use Rattle.track.specs.Image.{first_id}
 use Rattle.contents.specs.Content.{content_of}
-use Rattle.track.specs.declared.find.Sector.TheVariants.{Slot}
+use Rattle.track.specs.Find.{Slot}
 use Rattle.sectors.specs.Transfer.{found}
 use Rattle.keeping.proofs.Laws.{moved_found}
 use Rattle.model.specs.declared.record.Controller.{Controller}

@@ -9,7 +9,7 @@ use Rattle.base.specs.Byte.{byte}
 use Rattle.base.proofs.Decide.{pick_true}
 use Rattle.geometry.specs.declared.params.Track.{Track}
 use Rattle.geometry.specs.declared.params.Params.{Params}
-use Rattle.geometry.specs.declared.config.Setting.TheVariants.{Valid}
+use Rattle.std.specs.Prelude.{Some}
 use Rattle.geometry.specs.Params.{track_of}
 use Rattle.geometry.specs.Medium.{medium_of}
 use Rattle.interleave.specs.Layout.{layout_of}
@@ -21,8 +21,8 @@ use Rattle.model.specs.declared.table.Command.TheVariants.{OnDisk}
 use Rattle.model.specs.declared.table.DiskCommand.TheVariants.{TrackWork}
 use Rattle.model.specs.declared.table.TrackCommand.TheVariants.{AssignAlternate}
 use Rattle.model.specs.declared.record.Drive.{Drive}
-use Rattle.model.specs.declared.verdict.Verdict.{Verdict}
-use Rattle.model.specs.declared.verdict.Verdict.TheVariants.{Passed}
+use Rattle.model.specs.Verdicts.{Verdict}
+use Rattle.model.specs.Verdicts.{Passed}
 use Rattle.model.specs.Block.{keeps, alternate_of}
 use Rattle.model.specs.Table.{check_number, is_among, row_for}
 use Rattle.model.specs.Checks.{judged, judge}
@@ -45,7 +45,7 @@ good_own drive entry image after (fault code at some) ok = absurd (true≢false 
 good_own drive entry image after pass ok = refl
 
 module _ (b : Block) (given : List ℕ) (area : ℕ) (entry : Drive) (buffer image : List ℕ) (p : Params)
-    (is : (row_for b.opcode).command ≡ OnDisk (TrackWork AssignAlternate)) (valid : setting_in (medium_of b.drive) entry (length image) ≡ Valid p) where
+    (is : (row_for b.opcode).command ≡ OnDisk (TrackWork AssignAlternate)) (valid : setting_in (medium_of b.drive) entry (length image) ≡ Some p) where
   abbrev A : Track
   A = track_of p b.address
 
@@ -59,11 +59,11 @@ module _ (b : Block) (given : List ℕ) (area : ℕ) (entry : Drive) (buffer ima
   abbrev own : Verdict
   own = judged (assign_tests p (byte given 0) b.address (alternate_of given) (state_of p A image) (state_of p B image) (missing_in b p A image))
 
-  setting : (view_of (medium_of b.drive) entry (length image)).setting ≡ Valid p
+  setting : (view_of (medium_of b.drive) entry (length image)).setting ≡ Some p
   unfolding view_of
   setting = valid
 
-  own_good : is_good b.drive (carry_out b (Valid p) given entry buffer image (OnDisk (TrackWork AssignAlternate))).ending.answer ≡ true → own ≡ Passed
+  own_good : is_good b.drive (carry_out b (Some p) given entry buffer image (OnDisk (TrackWork AssignAlternate))).ending.answer ≡ true → own ≡ Passed
   unfolding carry_out do_disk do_track as_effect assign_alternate
   own_good ok = good_own b.drive entry image _ (assign_judged p (byte given 0) b.address (alternate_of given) _ _ _) ok
 

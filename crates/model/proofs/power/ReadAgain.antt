@@ -8,7 +8,7 @@ use lib.ListN.{length}
 use Rattle.base.specs.Part.{splice}
 use Rattle.geometry.specs.declared.params.Track.{Track}
 use Rattle.geometry.specs.declared.params.Params.{Params}
-use Rattle.geometry.specs.declared.config.Setting.TheVariants.{Valid}
+use Rattle.std.specs.Prelude.{Some}
 use Rattle.geometry.specs.Params.{further}
 use Rattle.geometry.specs.Medium.{medium_of}
 use Rattle.geometry.specs.Config.{label_holds}
@@ -35,7 +35,7 @@ ReadsAlike c images d cut read sent room =
     × (before.outcome.answer.number ≡ 0 → (drive_at after.outcome.controller d).sense ≡ (drive_at before.outcome.controller d).sense)
 
 module _ (c : Controller) (images : List (List ℕ)) (p : Params) (B : Track) (cut read sent room : List ℕ) (o : ReadOutside read (block_of read).drive p B)
-    (force : setting_in (medium_of (block_of read).drive) (drive_at c (block_of read).drive) (length (image_of (block_of read).drive images)) ≡ Valid p)
+    (force : setting_in (medium_of (block_of read).drive) (drive_at c (block_of read).drive) (length (image_of (block_of read).drive images)) ≡ Some p)
     (label : label_holds (medium_of (block_of read).drive) (image_of (block_of read).drive images) (drive_at c (block_of read).drive).config ≡ true)
     (f : Facts c images (block_of read).drive p B cut) where
   abbrev here : ℕ
@@ -78,11 +78,11 @@ module _ (c : Controller) (images : List (List ℕ)) (p : Params) (B : Track) (c
       )
 
 read_alike : (c : Controller) (images : List (List ℕ)) (d : ℕ) (p : Params) (B : Track) (cut read sent room : List ℕ) → ReadOutside read d p B
-    → setting_in (medium_of d) (drive_at c d) (length (image_of d images)) ≡ Valid p → label_holds (medium_of d) (image_of d images) (drive_at c d).config ≡ true
+    → setting_in (medium_of d) (drive_at c d) (length (image_of d images)) ≡ Some p → label_holds (medium_of d) (image_of d images) (drive_at c d).config ≡ true
     → Facts c images d p B cut → ReadsAlike c images d cut read sent room
 read_alike c images d p B cut read sent room o =
     subst
-    (λ (d : ℕ). ReadOutside read d p B → setting_in (medium_of d) (drive_at c d) (length (image_of d images)) ≡ Valid p
+    (λ (d : ℕ). ReadOutside read d p B → setting_in (medium_of d) (drive_at c d) (length (image_of d images)) ≡ Some p
     → label_holds (medium_of d) (image_of d images) (drive_at c d).config ≡ true → Facts c images d p B cut → ReadsAlike c images d cut read sent room)
     o.drive (its_read c images p B cut read sent room) o
 

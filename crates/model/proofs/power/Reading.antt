@@ -8,7 +8,7 @@ use lib.ListN.{length}
 use lib.Dec.{eqb}
 use Rattle.base.specs.Pick.{pick}
 use Rattle.geometry.specs.declared.params.Params.{Params}
-use Rattle.geometry.specs.declared.config.Setting.TheVariants.{Valid}
+use Rattle.std.specs.Prelude.{Some}
 use Rattle.geometry.specs.Params.{Within, OnDrive, address_count, further}
 use Rattle.geometry.specs.Medium.{medium_of}
 use Rattle.sectors.specs.Transfer.{Transfer, begun}
@@ -20,8 +20,8 @@ use Rattle.model.specs.declared.table.DiskCommand.TheVariants.{SectorWork}
 use Rattle.model.specs.declared.table.SectorCommand.TheVariants.{Read}
 use Rattle.model.specs.declared.record.Drive.{Drive}
 use Rattle.model.specs.declared.record.Ending.{Ending}
-use Rattle.model.specs.declared.verdict.Verdict.{Verdict}
-use Rattle.model.specs.declared.verdict.Verdict.TheVariants.{Passed}
+use Rattle.model.specs.Verdicts.{Verdict}
+use Rattle.model.specs.Verdicts.{Passed}
 use Rattle.model.specs.Block.{count_of}
 use Rattle.model.specs.Table.{check_number, is_among, row_for}
 use Rattle.model.specs.Checks.{judge}
@@ -76,20 +76,20 @@ module _ (drive : ℕ) (one other : Drive) (here there image cut : List ℕ) (x 
 module _ (b : Block) (given : List ℕ) (area : ℕ) (one other : Drive) (here there image cut : List ℕ) (p : Params) (w : Within p)
     (is : (row_for b.opcode).command ≡ OnDisk (SectorWork Read))
     (view : view_of (medium_of b.drive) one (length cut) ≡ view_of (medium_of b.drive) other (length image))
-    (valid : setting_in (medium_of b.drive) other (length image) ≡ Valid p)
+    (valid : setting_in (medium_of b.drive) other (length image) ≡ Some p)
     (same : (i : ℕ) → i < count_of b → OnDrive p (further b.address i) → content_of p (further b.address i) cut ≡ content_of p (further b.address i) image) where
   on_drive_lem : judge b (view_of (medium_of b.drive) other (length image)) (length given) area ≡ Passed → b.address.0 + count_of b ≤ address_count p
   unfolding row_for opcode_for is_among check_number
   on_drive_lem passed = count_cleared w (clear b given area other there image passed p valid (OnDisk (SectorWork Read)) is) refl refl
 
   done_same : judge b (view_of (medium_of b.drive) other (length image)) (length given) area ≡ Passed
-      → SameRead (carry_out b (Valid p) given one here cut (OnDisk (SectorWork Read))) (carry_out b (Valid p) given other there image (OnDisk (SectorWork Read)))
+      → SameRead (carry_out b (Some p) given one here cut (OnDisk (SectorWork Read))) (carry_out b (Some p) given other there image (OnDisk (SectorWork Read)))
   unfolding carry_out do_disk do_sectors read begun
   done_same passed =
       transfer_same b one other here there _ _
       (reading_alike p (count_of b) b.address (begun cut) (begun image) (begun_alike cut image) (λ i l. same i l (omega (arith, l, on_drive_lem passed))))
 
-  setting : (view_of (medium_of b.drive) other (length image)).setting ≡ Valid p
+  setting : (view_of (medium_of b.drive) other (length image)).setting ≡ Some p
   unfolding view_of
   setting = valid
 

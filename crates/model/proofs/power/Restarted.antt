@@ -14,8 +14,8 @@ use Rattle.base.proofs.Bools.{both_true}
 use Rattle.base.proofs.Sames.{same_eq}
 use Rattle.geometry.specs.declared.params.Params.{Params}
 use Rattle.geometry.specs.declared.medium.Medium.{Medium}
-use Rattle.geometry.specs.declared.config.Setting.{Setting}
-use Rattle.geometry.specs.declared.config.Setting.TheVariants.{Valid, Invalid}
+use Rattle.geometry.specs.Config.{Setting}
+use Rattle.std.specs.Prelude.{Some, None}
 use Rattle.geometry.specs.Medium.{medium_of}
 use Rattle.geometry.specs.Config.{setting_of, is_valid, label_config, label_setting, label_holds}
 use Rattle.geometry.proofs.Settings.{setting_within}
@@ -27,13 +27,13 @@ use Rattle.model.proofs.engine.Assembled.{fresh_drive}
 use Rattle.model.proofs.engine.Known.{setting_known}
 
 -- a setting that is valid was not refused for the zeros
-by_zeros : (zeros : Bool) (s : Setting) → is_valid (pick zeros s Invalid) ≡ true → pick zeros s Invalid ≡ s
+by_zeros : (zeros : Bool) (s : Setting) → is_valid (pick zeros s None) ≡ true → pick zeros s None ≡ s
 unfolding pick is_valid
 by_zeros true s e = refl
 by_zeros false s e = absurd (false≢true e)
 
 -- ---- a label that holds a configuration with which p is in force
-module _ (medium : Medium) (image config : List ℕ) (p : Params) (setting : setting_of medium config (length image) ≡ Valid p) (label : label_holds medium image config ≡ true) where
+module _ (medium : Medium) (image config : List ℕ) (p : Params) (setting : setting_of medium config (length image) ≡ Some p) (label : label_holds medium image config ≡ true) where
   its_parts : (is_valid (label_setting medium image) ≡ true) × (same_bytes (label_config image) config ≡ true)
   unfolding label_holds
   its_parts = both_true _ _ label
@@ -41,14 +41,14 @@ module _ (medium : Medium) (image config : List ℕ) (p : Params) (setting : set
   label_config_lem : label_config image ≡ config
   label_config_lem = same_eq _ _ its_parts.1
 
-  label_valid : label_setting medium image ≡ Valid p
+  label_valid : label_setting medium image ≡ Some p
   unfolding label_setting
   label_valid = by_zeros _ _ its_parts.0 ∙ ap (λ (l : List ℕ). setting_of medium l (length image)) label_config_lem ∙ setting
 
 -- ---- drive d's image replaced by one with the same label and length
 module _ (d : ℕ) (h : d < 4) (images : List (List ℕ)) (cut : List ℕ) (entry : Drive) (p : Params)
     (long : length cut ≡ length (image_of d images)) (same : (at size : ℕ) → at + size ≤ 16 → part at size cut ≡ part at size (image_of d images))
-    (force : setting_in (medium_of d) entry (length (image_of d images)) ≡ Valid p) (label : label_holds (medium_of d) (image_of d images) entry.config ≡ true) where
+    (force : setting_in (medium_of d) entry (length (image_of d images)) ≡ Some p) (label : label_holds (medium_of d) (image_of d images) entry.config ≡ true) where
   abbrev medium : Medium
   medium = medium_of d
 
@@ -58,7 +58,7 @@ module _ (d : ℕ) (h : d < 4) (images : List (List ℕ)) (cut : List ℕ) (entr
   abbrev left : List (List ℕ)
   left = set images d cut
 
-  setting : setting_of medium entry.config (length image) ≡ Valid p
+  setting : setting_of medium entry.config (length image) ≡ Some p
   setting = setting_known medium entry (length image) p force
 
   -- an image that is lent
@@ -79,7 +79,7 @@ module _ (d : ℕ) (h : d < 4) (images : List (List ℕ)) (cut : List ℕ) (entr
   cut_config : label_config cut ≡ entry.config
   cut_config = same 0 10 (omega arith) ∙ label_config_lem medium image entry.config p setting label
 
-  cut_valid : label_setting medium cut ≡ Valid p
+  cut_valid : label_setting medium cut ≡ Some p
   unfolding label_setting
   cut_valid = rw (same 10 6 (omega arith), same 0 10 (omega arith), long) (label_valid medium image entry.config p setting label)
 
@@ -91,7 +91,7 @@ module _ (d : ℕ) (h : d < 4) (images : List (List ℕ)) (cut : List ℕ) (entr
   unfolding loaded loaded_by
   loaded_again = fresh_drive left d h ∙ rw (left_image, cut_valid, cut_config)
 
-  pub again_force : setting_in medium again (length cut) ≡ Valid p
+  pub again_force : setting_in medium again (length cut) ≡ Some p
   unfolding setting_in pick
   again_force = rw long setting
 

@@ -14,7 +14,7 @@ use Rattle.keeping.specs.Keep.{Mapped, Keepable, kept as kept_of}
 use Rattle.keeping.proofs.Laws.{again}
 use Rattle.model.specs.declared.record.Drive.{Drive}
 use Rattle.model.specs.declared.record.Controller.{Controller}
-use Rattle.model.specs.declared.verdict.Verdict.TheVariants.{Passed}
+use Rattle.model.specs.Verdicts.{Passed}
 use Rattle.model.specs.Block.{block_of, alternate_of}
 use Rattle.model.specs.Checks.{judged, judge}
 use Rattle.model.specs.Commands.{assign_tests, missing_in}

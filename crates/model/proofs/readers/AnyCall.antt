@@ -10,10 +10,10 @@ use lib.Seq.{take_at, drop-append_seam}
 use Rattle.base.specs.Part.{part, splice}
 use Rattle.geometry.specs.declared.params.Track.{Track}
 use Rattle.geometry.specs.declared.params.Params.{Params}
-use Rattle.geometry.specs.declared.config.Setting.TheVariants.{Valid}
+use Rattle.std.specs.Prelude.{Some}
 use Rattle.geometry.specs.Params.{track_count, further}
 use Rattle.geometry.specs.Medium.{medium_of}
-use Rattle.track.specs.declared.find.Sector.TheVariants.{Slot}
+use Rattle.track.specs.Find.{Slot}
 use Rattle.track.specs.Find.{holds}
 use Rattle.track.specs.Image.{track_bytes, slot_id, slot_data}
 use Rattle.sectors.specs.Transfer.{begun, found}
@@ -142,7 +142,7 @@ module _ (c : Controller) (block given area : List ℕ) (images : List (List ℕ
 
 -- ---- (c) A Write changes only the data bytes of slots that it found: the label, every ID and all other data stay
 module _ (b : Block) (given : List ℕ) (area : ℕ) (entry : Drive) (buffer image : List ℕ) (p : Params)
-    (is : (row_for b.opcode).command ≡ OnDisk (SectorWork Write)) (valid : setting_in (medium_of b.drive) entry (length image) ≡ Valid p) where
+    (is : (row_for b.opcode).command ≡ OnDisk (SectorWork Write)) (valid : setting_in (medium_of b.drive) entry (length image) ≡ Some p) where
   write_obeyed : Written p (count_of b) b.address image (obey b given area entry buffer image).image
   unfolding obey view_of carry_out do_disk do_sectors write transferred begun
   write_obeyed =
@@ -163,7 +163,7 @@ module _ (c : Controller) (block given area : List ℕ) (images : List (List ℕ
   abbrev written : List ℕ
   written = image_of w.drive (execute c block given area images).images
 
-  module _ (is : (row_for w.opcode).command ≡ OnDisk (SectorWork Write)) (valid : setting_in (medium_of w.drive) (drive_at c w.drive) (length before) ≡ Valid p) where
+  module _ (is : (row_for w.opcode).command ≡ OnDisk (SectorWork Write)) (valid : setting_in (medium_of w.drive) (drive_at c w.drive) (length before) ≡ Some p) where
     all_written : Written p (count_of w) w.address before written
     all_written =
         let other = other_row block _ is (λ e. let z : ◌≡◌ {A = ℕ} 0 1 = cc in omega arith) in

@@ -14,8 +14,8 @@ use Rattle.geometry.specs.declared.params.Track.{Track}
 use Rattle.geometry.specs.declared.params.Params.{Params}
 use Rattle.geometry.specs.Params.{track_of, further, next}
 use Rattle.geometry.proofs.Addresses.{further_next}
-use Rattle.model.specs.declared.verdict.Verdict.{Verdict}
-use Rattle.model.specs.declared.verdict.Verdict.TheVariants.{Faulty, Passed}
+use Rattle.model.specs.Verdicts.{Verdict}
+use Rattle.model.specs.Verdicts.{Faulty, Passed}
 use Rattle.model.specs.Checks.{judged}
 use Rattle.model.specs.Machine.{bad, taken, Disk, storing, is_bad, is_taken, denied}
 use Rattle.model.specs.Machine.{Passage, finished, with_first, passing, read_from, write_from, inARow}

@@ -14,8 +14,8 @@ use Rattle.geometry.specs.declared.params.Track.{Track}
 use Rattle.geometry.specs.declared.params.Params.{Params}
 use Rattle.geometry.specs.Params.{track_of, further, next}
 use Rattle.geometry.proofs.Addresses.{further_next}
-use Rattle.model.specs.declared.verdict.Verdict.{Verdict}
-use Rattle.model.specs.declared.verdict.Verdict.TheVariants.{Refused, Faulty, Passed}
+use Rattle.model.specs.Verdicts.{Verdict}
+use Rattle.model.specs.Verdicts.{Refused, Faulty, Passed}
 use Rattle.model.specs.declared.block.Block.{Block}
 use Rattle.model.specs.Block.{count_of}
 use Rattle.model.specs.Checks.{judged}

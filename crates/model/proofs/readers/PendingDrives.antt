@@ -10,8 +10,8 @@ use Rattle.base.specs.Part.{part}
 use Rattle.geometry.specs.declared.params.Lba.{Lba}
 use Rattle.geometry.specs.declared.params.Params.{Params}
 use Rattle.geometry.specs.declared.medium.Medium.{Medium}
-use Rattle.geometry.specs.declared.config.Setting.{Setting}
-use Rattle.geometry.specs.declared.config.Setting.TheVariants.{Valid, Invalid}
+use Rattle.geometry.specs.Config.{Setting}
+use Rattle.std.specs.Prelude.{Some, None}
 use Rattle.geometry.specs.Medium.{medium_of}
 use Rattle.geometry.specs.Config.{setting_of, label_config, label_rest, label_setting, label_holds}
 use Rattle.geometry.proofs.Labels.{holds_own, label_made}
@@ -22,8 +22,8 @@ use Rattle.model.specs.declared.table.DiskCommand.TheVariants.{TrackWork}
 use Rattle.model.specs.declared.table.TrackCommand.TheVariants.{FormatDrive}
 use Rattle.model.specs.declared.record.Drive.{Drive}
 use Rattle.model.specs.declared.record.Ending.{Ending}
-use Rattle.model.specs.declared.verdict.Verdict.{Verdict}
-use Rattle.model.specs.declared.verdict.Verdict.TheVariants.{Refused, Faulty, Passed}
+use Rattle.model.specs.Verdicts.{Verdict}
+use Rattle.model.specs.Verdicts.{Refused, Faulty, Passed}
 use Rattle.model.specs.Table.{TableRow, row_for}
 use Rattle.model.specs.Checks.{judge}
 use Rattle.model.specs.Record.{blank_drive, sensed, setting_in, refused, failed, good, unless, Effect, effect, made, unless_named}
@@ -49,13 +49,13 @@ pub loaded_pending : (drive : ℕ) (image : List ℕ) → PendingByLabel (medium
 loaded_pending drive image = by (label_setting (medium_of drive) image) refl
   where
     by : (s : Setting) → label_setting (medium_of drive) image ≡ s → PendingByLabel (medium_of drive) (loaded drive image) image
-    by Invalid e = rw (loaded_blank drive image e) (blank_pending (medium_of drive) image)
-    by (Valid p) e = rw (loaded_known drive image p e) (λ known. sym (ap not (holds_own (medium_of drive) image (label_config image) p e refl)))
+    by None e = rw (loaded_blank drive image e) (blank_pending (medium_of drive) image)
+    by (Some p) e = rw (loaded_known drive image p e) (λ known. sym (ap not (holds_own (medium_of drive) image (label_config image) p e refl)))
 
 -- ---- Labels
 -- the label that Format Drive makes holds what is in force
 format_holds : (medium : Medium) (config after : List ℕ) (p : Params) → part 0 16 after ≡ config ++ label_rest
-    → setting_of medium config (length after) ≡ Valid p → label_holds medium after config ≡ true
+    → setting_of medium config (length after) ≡ Some p → label_holds medium after config ≡ true
 format_holds medium config after p is valid =
     let made = label_made medium config after p is valid in
     holds_own medium after config p made.1 made.0
@@ -126,8 +126,8 @@ module _ (b : Block) (given : List ℕ) (area : ℕ) (entry : Drive) (buffer ima
       → judge b (view_of medium entry (length image)) (length given) area ≡ Passed
       → (s : Setting) → setting_in medium entry (length image) ≡ s → AfterIt (carry_out b s given entry buffer image (OnDisk (TrackWork FormatDrive)))
   unfolding carry_out do_disk do_track format_drive as_effect
-  carried_leaves is passed Invalid e = failed_leaves 0x0A b.address
-  carried_leaves is passed (Valid p) e =
+  carried_leaves is passed None e = failed_leaves 0x0A b.address
+  carried_leaves is passed (Some p) e =
       let whole = format_label b given area entry buffer image passed p e is in
       let valid = ap (setting_of medium entry.config) whole.0 ∙ setting_known medium entry (length image) p e in
       unless_leaves (as_effect buffer) _ (λ x. made x image) _ (λ x. refl) (λ ok. format_leaves _ (format_holds medium entry.config _ p whole.1 valid))

@@ -16,13 +16,13 @@ use Rattle.geometry.specs.declared.params.Track.{Track}
 use Rattle.geometry.specs.declared.params.Params.{Params}
 use Rattle.geometry.specs.declared.medium.Medium.{Medium}
 use Rattle.geometry.specs.declared.medium.Medium.TheVariants.{HardDisk, Floppy}
-use Rattle.geometry.specs.declared.config.Setting.{Setting}
-use Rattle.geometry.specs.declared.config.Setting.TheVariants.{Valid, Invalid}
+use Rattle.geometry.specs.Config.{Setting}
+use Rattle.std.specs.Prelude.{Some, None}
 use Rattle.geometry.specs.Params.{track_of, sector_of}
 use Rattle.geometry.specs.Medium.{medium_of, is_floppy, is_in, ranges_of}
 use Rattle.geometry.specs.Config.{size_for, fitted_to, fields_in, setting_by, setting_of, is_valid, label_setting}
 use Rattle.track.specs.Image.{track_bytes, slot_data}
-use Rattle.track.specs.declared.find.Sector.TheVariants.{Slot}
+use Rattle.track.specs.Find.{Slot}
 use Rattle.track.specs.Find.{sector_found}
 use Rattle.sectors.specs.Transfer.{found}
 use Rattle.contents.specs.Content.{Bytes, content_in, content_of}
@@ -57,23 +57,23 @@ zero_byte (suc n) i zero = refl
 zero_byte (suc n) zero (suc k) = refl
 zero_byte (suc n) (suc i) (suc k) = zero_byte n i k
 
-no_cylinders : (medium : Medium) (heads step size burst image : ℕ) → setting_by medium 0 heads step size burst image ≡ Invalid
+no_cylinders : (medium : Medium) (heads step size burst image : ℕ) → setting_by medium 0 heads step size burst image ≡ None
 unfolding setting_by fields_in ranges_of is_in pick
 no_cylinders HardDisk heads step size burst image = refl
 no_cylinders Floppy heads step size burst image = refl
 
-zero_label : (medium : Medium) (n : ℕ) → label_setting medium (zeros n) ≡ Invalid
+zero_label : (medium : Medium) (n : ℕ) → label_setting medium (zeros n) ≡ None
 unfolding label_setting setting_of part
 zero_label medium n =
     let none : get_or (take 10 (zeros n)) 0 0 * 256 + get_or (take 10 (zeros n)) 1 0 ≡ 0 = omega (arith, zero_byte n 0 10, zero_byte n 1 10) in
-    let none_of : Setting → Type 0 = λ s. s ≡ Invalid in
+    let none_of : Setting → Type 0 = λ s. s ≡ None in
     pick-both none_of _ _ _ (pick-both none_of _ _ _ (rw none (no_cylinders medium _ _ _ _ _)) refl) refl
 
 module _ (n₀ n₁ n₂ n₃ : ℕ) where
   abbrev pub all_zeros : List (List ℕ)
   all_zeros = images_of (zeros n₀) (zeros n₁) (zeros n₂) (zeros n₃)
 
-  zero_labels : (drive : ℕ) → drive < 4 → label_setting (medium_of drive) (image_of drive all_zeros) ≡ Invalid
+  zero_labels : (drive : ℕ) → drive < 4 → label_setting (medium_of drive) (image_of drive all_zeros) ≡ None
   unfolding image_of
   zero_labels zero h = zero_label (medium_of 0) n₀
   zero_labels (suc zero) h = zero_label (medium_of 1) n₁
@@ -199,15 +199,15 @@ unfolding three at saving disk six config is_held fed at_end lengths_of pick sam
 machine_keeps = (refl, refl, refl, refl, refl)
 
 -- the configuration gives these parameters, if any
-only_three : (n : ℕ) (p : Params) → setting_of HardDisk (config 3) n ≡ Valid p → p ≡ three
+only_three : (n : ℕ) (p : Params) → setting_of HardDisk (config 3) n ≡ Some p → p ≡ three
 unfolding three config setting_of setting_by fields_in ranges_of is_in size_for fitted_to pick
 only_three n p e = by (leb 25360 n) e
   where
     fit : Setting → Params
-    fit (Valid q) = q
-    fit Invalid = three
+    fit (Some q) = q
+    fit None = three
 
-    by : (enough : Bool) → pick enough (Valid three) Invalid ≡ Valid p → p ≡ three
+    by : (enough : Bool) → pick enough (Some three) None ≡ Some p → p ≡ three
     by true z = sym (ap fit z)
     by false z = let clash : ◌≡◌ {A = ℕ} 0 1 = cc in absurd (omega (arith, clash))
 
@@ -225,7 +225,7 @@ held_reads : (u : Disk) → Kept u → Holds HardDisk u saved
 unfolding Holds
 held_reads u kept holds = by _ (holds (config 3) kept.0).1 (holds (config 3) kept.0).2
   where
-    by : (p : Params) → setting_of HardDisk (config 3) (length saved) ≡ Valid p → ((a : Lba) → is_held (u.kind (track_of p a)) ≡ true → Found p u a)
+    by : (p : Params) → setting_of HardDisk (config 3) (length saved) ≡ Some p → ((a : Lba) → is_held (u.kind (track_of p a)) ≡ true → Found p u a)
         → (content_of three (at 31) saved ≡ Bytes (replicate 256 7)) × (content_of three (at 32) saved ≡ Bytes (replicate 256 8))
     by p valid found =
         let all = subst (λ (q : Params). (a : Lba) → is_held (u.kind (track_of q a)) ≡ true → Found q u a) (only_three (length saved) p valid) found in

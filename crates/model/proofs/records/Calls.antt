@@ -11,8 +11,8 @@ use Rattle.base.specs.Part.{part}
 use Rattle.base.proofs.Decide.{pick_true, pick-false}
 use Rattle.geometry.specs.declared.params.Lba.{Lba}
 use Rattle.geometry.specs.declared.params.Params.{Params}
-use Rattle.geometry.specs.declared.config.Setting.{Setting}
-use Rattle.geometry.specs.declared.config.Setting.TheVariants.{Valid, Invalid}
+use Rattle.geometry.specs.Config.{Setting}
+use Rattle.std.specs.Prelude.{Some, None}
 use Rattle.geometry.specs.Params.{track_count, track_of, OnDrive, further}
 use Rattle.geometry.specs.Medium.{medium_of}
 use Rattle.track.specs.Image.{Fits}
@@ -34,8 +34,8 @@ use Rattle.model.specs.declared.table.SectorCommand.TheVariants.{Read, Write}
 use Rattle.model.specs.declared.record.Drive.{Drive}
 use Rattle.model.specs.declared.record.Ending.{Ending}
 use Rattle.model.specs.declared.record.Controller.{Controller}
-use Rattle.model.specs.declared.verdict.Verdict.{Verdict}
-use Rattle.model.specs.declared.verdict.Verdict.TheVariants.{Passed}
+use Rattle.model.specs.Verdicts.{Verdict}
+use Rattle.model.specs.Verdicts.{Passed}
 use Rattle.model.specs.Block.{block_of, count_of, is_whole, is_copy, copy_of}
 use Rattle.model.specs.Table.{check_number, is_among, row_for}
 use Rattle.model.specs.Checks.{bytes_of, size_in, judge}
@@ -81,7 +81,7 @@ own_off n x e = rw (eq-eqb n n refl) at e
 -- ---- A command whose checks have passed, with parameters p
 module _ (b : Block) (given : List ℕ) (area : ℕ) (entry : Drive) (buffer image : List ℕ)
     (passed : judge b (view_of (medium_of b.drive) entry (length image)) (length given) area ≡ Passed)
-    (p : Params) (valid : setting_in (medium_of b.drive) entry (length image) ≡ Valid p) where
+    (p : Params) (valid : setting_in (medium_of b.drive) entry (length image) ≡ Some p) where
   pub good_image : Fits p image
   good_image = record { within = w b given area entry buffer image passed p valid; long = fits b given area entry buffer image passed p valid }
 
@@ -135,7 +135,7 @@ module _ (b : Block) (given : List ℕ) (area : ℕ) (entry : Drive) (buffer ima
     disk_spares (TrackWork command) is off = track_spares command is off
     disk_spares (SectorWork command) is off = sectors_spare command is off
 
-    carried_spares : (command : Command) → (row_for b.opcode).command ≡ command → Spared command (carry_out b (Valid p) given entry buffer image command)
+    carried_spares : (command : Command) → (row_for b.opcode).command ≡ command → Spared command (carry_out b (Some p) given entry buffer image command)
     unfolding carry_out
     carried_spares (Free command) is off = free_spares command off
     carried_spares (OnDisk command) is off = disk_spares command is off
@@ -144,14 +144,14 @@ module _ (b : Block) (given : List ℕ) (area : ℕ) (entry : Drive) (buffer ima
 
   -- ---- what a Write counts as done
   written_given : (row_for b.opcode).command ≡ OnDisk (SectorWork Write)
-      → Reads b given p (carry_out b (Valid p) given entry buffer image (OnDisk (SectorWork Write)))
+      → Reads b given p (carry_out b (Some p) given entry buffer image (OnDisk (SectorWork Write)))
   unfolding carry_out do_disk do_sectors
   written_given is =
       (write_given p image good_image b given (to_write is) entry buffer, write_whole p image good_image b given (to_write is) entry buffer)
 
 -- ---- Any command of six bytes on its drive
 module _ (b : Block) (given : List ℕ) (area : ℕ) (entry : Drive) (buffer image : List ℕ)
-    (p : Params) (valid : setting_in (medium_of b.drive) entry (length image) ≡ Valid p) where
+    (p : Params) (valid : setting_in (medium_of b.drive) entry (length image) ≡ Some p) where
   abbrev Done : Effect → Type 0
   Done e = (a : Lba) → OnDrive p a → named_by b.drive p b given e.ending.answer a (row_for b.opcode).command ≡ false
       → content_of p a e.image ≡ content_of p a image
@@ -174,7 +174,7 @@ module _ (b : Block) (given : List ℕ) (area : ℕ) (entry : Drive) (buffer ima
 -- ---- A command on the disk with good status had parameters
 module _ (b : Block) (given : List ℕ) (area : ℕ) (entry : Drive) (buffer image : List ℕ) (command : DiskCommand)
     (is : (row_for b.opcode).command ≡ OnDisk command) where
-  never_good : setting_in (medium_of b.drive) entry (length image) ≡ Invalid
+  never_good : setting_in (medium_of b.drive) entry (length image) ≡ None
       → is_good b.drive (obey b given area entry buffer image).ending.answer ≡ false
   unfolding obey view_of carry_out failed
   never_good none =
@@ -183,12 +183,12 @@ module _ (b : Block) (given : List ℕ) (area : ℕ) (entry : Drive) (buffer ima
 
   by_setting : (s : Setting) → setting_in (medium_of b.drive) entry (length image) ≡ s
       → is_good b.drive (obey b given area entry buffer image).ending.answer ≡ true
-      → (p : Params) × (setting_in (medium_of b.drive) entry (length image) ≡ Valid p)
-  by_setting Invalid e ok = absurd (true≢false (sym ok ∙ never_good e))
-  by_setting (Valid p) e ok = (p, e)
+      → (p : Params) × (setting_in (medium_of b.drive) entry (length image) ≡ Some p)
+  by_setting None e ok = absurd (true≢false (sym ok ∙ never_good e))
+  by_setting (Some p) e ok = (p, e)
 
   pub good_setting : is_good b.drive (obey b given area entry buffer image).ending.answer ≡ true
-      → (p : Params) × (setting_in (medium_of b.drive) entry (length image) ≡ Valid p)
+      → (p : Params) × (setting_in (medium_of b.drive) entry (length image) ≡ Some p)
   good_setting = by_setting _ refl
 
 -- ---- Any call
@@ -218,7 +218,7 @@ module _ (c : Controller) (block given area : List ℕ) (images : List (List ℕ
   unfolding left
   its_answer = refl
 
-  module _ (d : ℕ) (p : Params) (valid : setting_in (medium_of d) (drive_at c d) (length (image_of d images)) ≡ Valid p) (a : Lba) (ha : OnDrive p a) where
+  module _ (d : ℕ) (p : Params) (valid : setting_in (medium_of d) (drive_at c d) (length (image_of d images)) ≡ Some p) (a : Lba) (ha : OnDrive p a) where
     abbrev Same : Result → Type 0
     Same r = content_of p a (image_of d r.images) ≡ content_of p a (image_of d images)
 

@@ -12,9 +12,9 @@ use Rattle.geometry.specs.declared.params.Track.{Track}
 use Rattle.geometry.specs.declared.params.Params.{Params}
 use Rattle.geometry.specs.Params.{next}
 use Rattle.track.specs.declared.id.Id.{Id}
-use Rattle.track.specs.declared.find.Where.{Where}
-use Rattle.track.specs.declared.find.Where.TheVariants.{On, Off}
-use Rattle.track.specs.declared.find.Sector.TheVariants.{Fault}
+use Rattle.track.specs.Find.{Where}
+use Rattle.track.specs.Find.{On, Off}
+use Rattle.track.specs.Find.{Fault}
 use Rattle.track.specs.Find.{where_by, where_of, sector_in, sector_from, sector_found, slot_used}
 use Rattle.track.specs.Image.{track_bytes}
 use Rattle.sectors.specs.Transfer.{Transfer, begun, ended, read_slot, write_slot, found, reading, writing}

@@ -31,8 +31,8 @@ use Rattle.contents.proofs.Laws.{format_track_elsewhere, format_bad_track_elsewh
 use Rattle.model.specs.declared.block.Block.{Block}
 use Rattle.model.specs.declared.record.Drive.{Drive}
 use Rattle.model.specs.declared.record.Ending.{Ending}
-use Rattle.model.specs.declared.verdict.Verdict.{Verdict}
-use Rattle.model.specs.declared.verdict.Verdict.TheVariants.{Passed}
+use Rattle.model.specs.Verdicts.{Verdict}
+use Rattle.model.specs.Verdicts.{Passed}
 use Rattle.keeping.specs.Keep.{kept}
 use Rattle.keeping.proofs.Laws.{layout_maps, kept_late, power}
 use Rattle.model.specs.Block.{count_of, keeps, alternate_of}

@@ -11,14 +11,14 @@ use borrow.Author.Tests.{eq-eqb}
 use Rattle.base.specs.Part.{part}
 use Rattle.geometry.specs.declared.params.Lba.{Lba}
 use Rattle.geometry.specs.declared.params.Params.{Params}
-use Rattle.geometry.specs.declared.config.Setting.TheVariants.{Valid}
+use Rattle.std.specs.Prelude.{Some}
 use Rattle.geometry.specs.Params.{OnDrive, further}
 use Rattle.geometry.specs.Medium.{medium_of}
 use Rattle.sectors.specs.Transfer.{begun, reading}
 use Rattle.contents.specs.Content.{Bytes, content_of}
 use Rattle.copying.specs.declared.route.Route.{Route}
-use Rattle.copying.specs.declared.route.End.{End}
-use Rattle.copying.specs.declared.route.End.TheVariants.{Going, SourceFault, TargetFault, Short}
+use Rattle.copying.specs.Ends.{End}
+use Rattle.copying.specs.Ends.{Going, SourceFault, TargetFault, Short}
 use Rattle.copying.specs.Copying.{copied}
 use Rattle.copying.proofs.Laws.{copied_others, copied_given, copied_elsewhere, going_whole, short_whole, EndedBy, going, by_source, by_target, short, copied_ended}
 use Rattle.model.specs.declared.block.CopyBlock.{CopyBlock}
@@ -35,7 +35,7 @@ use Rattle.model.proofs.records.Commands.{not_done, not_good}
 use Rattle.model.proofs.records.Codes.{reading_low, writing_low, sense_low}
 
 -- the same parameters
-one_valid : (p q : Params) → Valid p ≡ Valid q → p ≡ q
+one_valid : (p q : Params) → Some p ≡ Some q → p ≡ q
 one_valid p q e = cc
 
 module _ (c : Controller) (block area : List ℕ) (images : List (List ℕ)) (copy : is_copy block ≡ true) where
@@ -57,7 +57,7 @@ module _ (c : Controller) (block area : List ℕ) (images : List (List ℕ)) (co
   unfolding left_by_copy copy_left
   its_images p q = refl
 
-  pub copy_spares : (d : ℕ) (p : Params) → setting_in (medium_of d) (drive_at c d) (length (image_of d images)) ≡ Valid p
+  pub copy_spares : (d : ℕ) (p : Params) → setting_in (medium_of d) (drive_at c d) (length (image_of d images)) ≡ Some p
       → (a : Lba) → OnDrive p a → (s q : Params) → Carried c block area images copy s q
       → named_by_copy d k (done_by s q).outcome.answer a ≡ false
       → content_of p a (image_of d (done_by s q).images) ≡ content_of p a (image_of d images)
@@ -90,8 +90,8 @@ module _ (c : Controller) (block area : List ℕ) (images : List (List ℕ)) (co
 
   -- ---- what is done reads as the bytes that ran into it
   module _ (p q : Params)
-      (sp : setting_in (medium_of k.from.drive) (drive_at c k.from.drive) (length (image_of k.from.drive images)) ≡ Valid p)
-      (sq : setting_in (medium_of k.to.drive) (drive_at c k.to.drive) (length (image_of k.to.drive images)) ≡ Valid q) where
+      (sp : setting_in (medium_of k.from.drive) (drive_at c k.from.drive) (length (image_of k.from.drive images)) ≡ Some p)
+      (sq : setting_in (medium_of k.to.drive) (drive_at c k.to.drive) (length (image_of k.to.drive images)) ≡ Some q) where
     abbrev DoneReads : Result → Type 0
     DoneReads r =
         (i : ℕ) → i < r.outcome.answer.sectors
@@ -122,8 +122,8 @@ module _ (c : Controller) (block area : List ℕ) (images : List (List ℕ)) (co
   abbrev Whole : Result → Type 0
   Whole r =
       (p : Params) × (q : Params)
-      × (setting_in (medium_of k.from.drive) (drive_at c k.from.drive) (length (image_of k.from.drive images)) ≡ Valid p)
-      × (setting_in (medium_of k.to.drive) (drive_at c k.to.drive) (length (image_of k.to.drive images)) ≡ Valid q)
+      × (setting_in (medium_of k.from.drive) (drive_at c k.from.drive) (length (image_of k.from.drive images)) ≡ Some p)
+      × (setting_in (medium_of k.to.drive) (drive_at c k.to.drive) (length (image_of k.to.drive images)) ≡ Some q)
       × ((reading p n k.from.address (begun (image_of k.from.drive images))).done ≡ n)
       × (r.outcome.answer.sectors * q.size ≡ n * p.size)
 
@@ -164,8 +164,8 @@ module _ (c : Controller) (block area : List ℕ) (images : List (List ℕ)) (co
   abbrev InShort : Result → Type 0
   InShort r =
       (p : Params) × (q : Params)
-      × (setting_in (medium_of k.from.drive) (drive_at c k.from.drive) (length (image_of k.from.drive images)) ≡ Valid p)
-      × (setting_in (medium_of k.to.drive) (drive_at c k.to.drive) (length (image_of k.to.drive images)) ≡ Valid q)
+      × (setting_in (medium_of k.from.drive) (drive_at c k.from.drive) (length (image_of k.from.drive images)) ≡ Some p)
+      × (setting_in (medium_of k.to.drive) (drive_at c k.to.drive) (length (image_of k.to.drive images)) ≡ Some q)
       × ((reading p n k.from.address (begun (image_of k.from.drive images))).done ≡ n)
       × (n * p.size < r.outcome.answer.sectors * q.size)
       × (r.outcome.answer.sectors * q.size < n * p.size + q.size)

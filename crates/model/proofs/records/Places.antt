@@ -12,8 +12,8 @@ use borrow.Author.Tests.{eqb-true, eqb-false}
 use Rattle.base.specs.Part.{part}
 use Rattle.base.proofs.Decide.{pick-both}
 use Rattle.geometry.specs.declared.params.Params.{Params}
-use Rattle.geometry.specs.declared.config.Setting.{Setting}
-use Rattle.geometry.specs.declared.config.Setting.TheVariants.{Valid, Invalid}
+use Rattle.geometry.specs.Config.{Setting}
+use Rattle.std.specs.Prelude.{Some, None}
 use Rattle.model.specs.declared.block.Block.{Block}
 use Rattle.model.specs.declared.table.Command.{Command}
 use Rattle.model.specs.declared.table.Command.TheVariants.{Free, OnDisk, Copy, Unknown}
@@ -23,8 +23,8 @@ use Rattle.model.specs.declared.table.TrackCommand.TheVariants.{FormatDrive, Che
 use Rattle.model.specs.declared.record.Drive.{Drive}
 use Rattle.model.specs.declared.record.Controller.{Controller}
 use Rattle.model.specs.declared.record.Ending.{Ending}
-use Rattle.model.specs.declared.verdict.Verdict.{Verdict}
-use Rattle.model.specs.declared.verdict.Verdict.TheVariants.{Refused, Faulty, Passed}
+use Rattle.model.specs.Verdicts.{Verdict}
+use Rattle.model.specs.Verdicts.{Refused, Faulty, Passed}
 use Rattle.model.specs.Block.{block_of}
 use Rattle.model.specs.Table.{row_for}
 use Rattle.model.specs.Record.{drive_at, blank_drive, sensed, failed, good, refused, unless, Effect, effect, Made, made, unless_named}
@@ -78,8 +78,8 @@ module _ (b : Block) (given : List ℕ) (area : ℕ) (entry : Drive) (buffer ima
 
   carried_left : (s : Setting) → Left (carry_out b s given entry buffer image (OnDisk (TrackWork FormatDrive)))
   unfolding carry_out do_disk do_track
-  carried_left (Valid p) bad = format_left p bad
-  carried_left Invalid bad = refl
+  carried_left (Some p) bad = format_left p bad
+  carried_left None bad = refl
 
   failed_format : (row_for b.opcode).command ≡ OnDisk (TrackWork FormatDrive) → Left (obey b given area entry buffer image)
   unfolding obey

@@ -15,7 +15,7 @@ use Rattle.geometry.specs.Medium.{medium_of}
 use Rattle.model.specs.declared.block.Block.{Block}
 use Rattle.model.specs.declared.record.Drive.{Drive}
 use Rattle.model.specs.declared.verdict.View.{View}
-use Rattle.model.specs.declared.verdict.Verdict.TheVariants.{Passed}
+use Rattle.model.specs.Verdicts.{Passed}
 use Rattle.model.specs.Block.{block_of}
 use Rattle.model.specs.Table.{check_number, is_among, row_for}
 use Rattle.model.specs.Checks.{judged, is_unknown, block_wrong, reach_of, bytes_of, hits_of, in_order, judge}

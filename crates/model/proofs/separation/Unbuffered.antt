@@ -9,8 +9,8 @@ use lib.Dec.{eqb}
 use borrow.Author.Tests.{ne_eqb}
 use Rattle.base.specs.Pick.{pick}
 use Rattle.geometry.specs.declared.params.Params.{Params}
-use Rattle.geometry.specs.declared.config.Setting.{Setting}
-use Rattle.geometry.specs.declared.config.Setting.TheVariants.{Valid, Invalid}
+use Rattle.geometry.specs.Config.{Setting}
+use Rattle.std.specs.Prelude.{Some, None}
 use Rattle.geometry.specs.Medium.{medium_of}
 use Rattle.model.specs.declared.block.Block.{Block}
 use Rattle.model.specs.declared.table.Command.{Command}
@@ -25,8 +25,8 @@ use Rattle.model.specs.declared.table.SectorCommand.{SectorCommand}
 use Rattle.model.specs.declared.table.SectorCommand.TheVariants.{Read, Write}
 use Rattle.model.specs.declared.record.Drive.{Drive}
 use Rattle.model.specs.declared.record.Ending.{Ending}
-use Rattle.model.specs.declared.verdict.Verdict.{Verdict}
-use Rattle.model.specs.declared.verdict.Verdict.TheVariants.{Refused, Faulty, Passed}
+use Rattle.model.specs.Verdicts.{Verdict}
+use Rattle.model.specs.Verdicts.{Refused, Faulty, Passed}
 use Rattle.model.specs.Block.{block_of, from_buffer}
 use Rattle.model.specs.Table.{table, unknown, row_for}
 use Rattle.model.specs.Record.{unless, unless_named, Effect, effect, Made}
@@ -128,8 +128,8 @@ module _ (b : Block) (given : List ℕ) (entry : Drive) (x y image : List ℕ) w
       → SameBut (carry_out b setting given entry x image command) (carry_out b setting given entry y image command)
   unfolding carry_out uses
   carried_same setting (Free command) off = free_same command off
-  carried_same Invalid (OnDisk command) off = kept _ _ _ _ _
-  carried_same (Valid p) (OnDisk command) off = disk_same p command off
+  carried_same None (OnDisk command) off = kept _ _ _ _ _
+  carried_same (Some p) (OnDisk command) off = disk_same p command off
   carried_same setting Unknown off = kept _ _ _ _ _
   carried_same setting Copy off = kept _ _ _ _ _
 

@@ -1,12 +1,15 @@
+use mathlib.Core.Path.{◌≡◌, refl}
+use borrow.Author.Rules.{rules}
+use Rattle.geometry.specs.Medium.{is_floppy}
 use Rattle.model.specs.Table.{HardOnly, Control}
 use Rattle.model.specs.Checks.{block_wrong}
-use Rattle.table.specs.Rows.{bit_of}
 use Rattle.checks.proofs.Orders.{checked, control_checked, any_of}
 use Rattle.checks.proofs.order.block_wrong.Goals as goal
 
 pub returns : goal.returns
-unfolding block_wrong bit_of
+unfolding block_wrong is_floppy
 returns c =
-    any_of c.args.b.top (checked c.requires HardOnly c.has.ensures c.is_floppy.ensures c.both-lacked.ensures)
-    (checked c.requires Control c.has-4.ensures (control_checked c.requires _ c.has-2.ensures c.has-3.ensures c.control_wrong-wrong.ensures) c.both.ensures)
-    c.either.ensures c.either-2.ensures
+    let floppy : c.eq.result ≡ is_floppy c.args.view.medium = search rules in
+    any_of c.args.b.top (checked c.requires HardOnly refl floppy refl)
+    (checked c.requires Control refl (control_checked c.requires _ refl refl c.control_wrong-wrong.ensures) refl)
+    refl refl

@@ -3,12 +3,12 @@ use Rattle.copies.proofs.copy.copy.Goals as goal
 
 pub copy_sectors-copied-requires : goal.copy_sectors-copied-requires
 copy_sectors-copied-requires c =
-    copies_on _ _ _ _ _ _ c.count_of.ensures.0 c.requires.0 c.requires.1 c.count_of.ensures.1
+    copies_on _ _ _ _ _ c.count_of.ensures.0 c.requires c.count_of.ensures.1
 
 pub finish_copy-requires : goal.finish_copy-requires
 finish_copy-requires c =
-    can_end _ _ _ _ c.requires.0 _ _ _ _ _ c.count_of.ensures.0 c.copy_sectors-copied.ensures
+    can_end _ _ _ _ c.requires _ _ _ _ _ c.count_of.ensures.0 c.copy_sectors-copied.ensures.copied
 
-pub returns : goal.returns
-returns c =
-    copy_leaves _ _ _ _ c.requires.0 _ _ _ _ _ _ _ c.count_of.ensures.0 c.copy_sectors-copied.ensures c.finish_copy.ensures
+pub returns-clause-left : goal.returns-clause-left
+returns-clause-left c =
+    copy_leaves _ _ _ _ c.requires _ _ _ _ _ _ _ c.count_of.ensures.0 c.copy_sectors-copied.ensures.copied c.finish_copy.ensures

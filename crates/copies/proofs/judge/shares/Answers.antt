@@ -1,3 +1,6 @@
+use borrow.Author.Rules.{rules}
+use mathlib.Core.Path.{◌≡◌, refl}
+use lib.Dec.{ltb}
 use Rattle.model.specs.Checks.{shares}
 use Rattle.copies.proofs.Judges.{all_of}
 use Rattle.copies.proofs.judge.shares.Goals as goal
@@ -5,4 +8,7 @@ use Rattle.copies.proofs.judge.shares.Goals as goal
 pub returns : goal.returns
 unfolding shares
 returns c =
-    all_of c.args.k _ _ c.further.ensures c.is_past.ensures c.further-2.ensures c.is_past-2.ensures c.both.ensures c.both-2.ensures
+    let k = c.args.k in
+    let one : c.gt.result ≡ ltb k.from.address.0 c.further.result.0 = search rules in
+    let other : c.gt-2.result ≡ ltb k.to.address.0 c.further-2.result.0 = search rules in
+    all_of k _ _ c.further.ensures one c.further-2.ensures other refl refl

@@ -1,3 +1,6 @@
+use borrow.Author.Rules.{rules}
+use mathlib.Core.Path.{◌≡◌}
+use lib.ListN.{length}
 use Rattle.dispatch.specs.Ready.{FreeReady}
 use Rattle.dispatch.proofs.Admits.{free_as}
 use Rattle.dispatch.proofs.Carries.{sense_carries, buffered_carries, buffer_carries, initialize_carries}
@@ -11,12 +14,12 @@ request_sense-requires c =
 pub write_buffer-requires : goal.write_buffer-requires
 unfolding FreeReady
 write_buffer-requires c =
-    (c.requires.0.drive, c.requires.2, free_as _ _ _ _ c.in-WriteBuffer.is c.requires.1)
+    (c.requires.0.drive, free_as _ _ _ _ c.in-WriteBuffer.is c.requires.1)
 
 pub read_buffer-requires : goal.read_buffer-requires
 unfolding FreeReady
 read_buffer-requires c =
-    (c.requires.0.drive, c.requires.2, free_as _ _ _ _ c.in-ReadBuffer.is c.requires.1)
+    (c.requires.0.drive, free_as _ _ _ _ c.in-ReadBuffer.is c.requires.1)
 
 pub initialize-requires : goal.initialize-requires
 unfolding FreeReady
@@ -36,7 +39,7 @@ returns-in-WriteBuffer c =
 pub returns-in-ReadBuffer : goal.returns-in-ReadBuffer
 returns-in-ReadBuffer c =
     let called = c.read_buffer.ensures in
-    buffer_carries _ _ _ _ _ _ _ _ c.in-ReadBuffer.is c.requires.2 called.0 _ called.1
+    buffer_carries _ _ _ _ _ _ _ _ c.in-ReadBuffer.is (let whole : length c.args.buffer.now ≡ 512 = search rules in whole) called.0 _ called.1
 
 pub returns-in-Initialize : goal.returns-in-Initialize
 returns-in-Initialize c = initialize_carries _ _ _ _ _ _ _ _ c.in-Initialize.is c.initialize.ensures

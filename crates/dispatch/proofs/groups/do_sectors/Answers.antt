@@ -8,12 +8,12 @@ use Rattle.dispatch.proofs.groups.do_sectors.Goals as goal
 pub read-requires : goal.read-requires
 unfolding SectorReady
 read-requires c =
-    (sector_as _ _ _ _ _ _ _ c.in-Read.is c.requires.0, c.requires.1)
+    sector_as _ _ _ _ _ _ _ c.in-Read.is c.requires
 
 pub write-requires : goal.write-requires
 unfolding SectorReady
 write-requires c =
-    (sector_as _ _ _ _ _ _ _ c.in-Write.is c.requires.0, c.requires.1)
+    sector_as _ _ _ _ _ _ _ c.in-Write.is c.requires
 
 pub returns-in-Read : goal.returns-in-Read
 unfolding do_sectors

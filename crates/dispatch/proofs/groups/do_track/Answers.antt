@@ -8,7 +8,7 @@ use Rattle.dispatch.proofs.groups.do_track.Goals as goal
 pub assign_alternate-requires : goal.assign_alternate-requires
 unfolding TrackReady
 assign_alternate-requires c =
-    (c.requires.0, track_as _ _ _ c.in-AssignAlternate.is c.requires.1, c.requires.2)
+    (c.requires.0, track_as _ _ _ c.in-AssignAlternate.is c.requires.1)
 
 pub returns-in-FormatDrive : goal.returns-in-FormatDrive
 unfolding do_track

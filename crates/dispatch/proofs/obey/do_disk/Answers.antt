@@ -8,11 +8,11 @@ use Rattle.dispatch.proofs.obey.do_disk.Goals as goal
 pub do_track-requires : goal.do_track-requires
 do_track-requires c =
     let ready = track_admits _ c.requires.0 c.requires.2 _ (c.requires.1 ∙ ap {B = Command} OnDisk c.in-TrackWork.is) in
-    (ready.0, ready.1, c.requires.3)
+    (ready.0, ready.1)
 
 pub do_sectors-requires : goal.do_sectors-requires
 do_sectors-requires c =
-    (sector_admits _ c.requires.0 c.requires.2 _ (c.requires.1 ∙ ap {B = Command} OnDisk c.in-SectorWork.is), c.requires.3)
+    sector_admits _ c.requires.0 c.requires.2 _ (c.requires.1 ∙ ap {B = Command} OnDisk c.in-SectorWork.is)
 
 pub returns-in-ArmWork : goal.returns-in-ArmWork
 returns-in-ArmWork c = on_arm _ _ _ _ _ _ _ _ _ _ c.in-ArmWork.is c.do_arm.ensures

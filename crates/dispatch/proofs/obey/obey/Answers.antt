@@ -1,34 +1,38 @@
-use mathlib.Core.Path.{sym}
+use mathlib.Core.Path.{sym, ap, ◌∙◌}
+use Rattle.model.specs.Verdicts.{as_verdict, stop_verdict}
 use Rattle.checks.proofs.Views.{view_legal}
 use Rattle.dispatch.proofs.Obeys.{fault_below, admitted, setting_is, obey_refused, obey_failed, obey_carried}
 use Rattle.dispatch.proofs.obey.obey.Goals as goal
 
-pub judge-verdict-requires : goal.judge-verdict-requires
-judge-verdict-requires c =
-    (c.row_of-row.ensures, view_legal _ _ _ _ c.view_of-view.ensures, c.requires.0)
+pub judge-requires : goal.judge-requires
+judge-requires c =
+    (c.row_of-row.ensures, view_legal _ _ _ _ c.view_of-view.ensures, c.requires)
 
 pub failed-requires : goal.failed-requires
 failed-requires c =
-    let fault = fault_below _ _ _ _ _ c.judge-verdict.ensures _ _ c.in-Faulty.is c.requires.0.address in
-    (c.requires.0.drive, c.requires.0.drive, fault.0, fault.1)
+    let is = ap as_verdict c.in-Err-Fail.is ∙ ap stop_verdict c.in-Err-Fail.field-0-is in
+    (c.requires.drive, c.requires.drive, rw c.in-Err-Fail.at-is (fault_below _ _ _ _ _ c.judge.ensures _ _ is c.requires.address))
 
 pub carry_out-requires : goal.carry_out-requires
 carry_out-requires c =
     let seen = c.view_of-view.ensures in
-    let passed = admitted c.args.b c.args.given.now c.args.entry c.args.area.now c.args.image.now _ seen _ c.judge-verdict.ensures c.requires.0 c.in-Passed.is in (
+    let passed = admitted c.args.b c.args.given.now c.args.entry c.args.area.now c.args.image.now _ seen _ c.judge.ensures c.requires (ap as_verdict c.in-Ok.is) in (
       passed,
       sym c.row_of-row.ensures.command,
       setting_is c.args.b c.args.given.now c.args.entry c.args.area.now c.args.image.now _ seen,
-      c.requires.1,
     )
 
-pub returns-in-Refused : goal.returns-in-Refused
-returns-in-Refused c = obey_refused _ _ _ _ _ _ c.view_of-view.ensures _ c.judge-verdict.ensures _ _ _ c.in-Refused.is c.refused.ensures
+pub returns-in-Err-Refuse : goal.returns-in-Err-Refuse
+returns-in-Err-Refuse c =
+    let is = ap as_verdict c.in-Err-Refuse.is ∙ ap stop_verdict c.in-Err-Refuse.field-0-is in
+    obey_refused _ _ _ _ _ _ c.view_of-view.ensures _ c.judge.ensures _ _ _ is (rw c.in-Err-Refuse.refusal-is at c.refused.ensures)
 
-pub returns-in-Faulty : goal.returns-in-Faulty
-returns-in-Faulty c = obey_failed _ _ _ _ _ _ c.view_of-view.ensures _ c.judge-verdict.ensures _ _ _ _ c.in-Faulty.is c.failed.ensures
+pub returns-in-Err-Fail : goal.returns-in-Err-Fail
+returns-in-Err-Fail c =
+    let is = ap as_verdict c.in-Err-Fail.is ∙ ap stop_verdict c.in-Err-Fail.field-0-is in
+    obey_failed _ _ _ _ _ _ c.view_of-view.ensures _ c.judge.ensures _ _ _ _ is (rw (c.in-Err-Fail.code-is, c.in-Err-Fail.at-is) at c.failed.ensures)
 
-pub returns-in-Passed : goal.returns-in-Passed
-returns-in-Passed c =
-    obey_carried _ _ _ _ _ _ c.view_of-view.ensures _ c.judge-verdict.ensures _ _ _ c.in-Passed.is
+pub returns-in-Ok : goal.returns-in-Ok
+returns-in-Ok c =
+    obey_carried _ _ _ _ _ _ c.view_of-view.ensures _ c.judge.ensures _ _ _ (ap as_verdict c.in-Ok.is)
     (sym c.row_of-row.ensures.command) c.carry_out.ensures

@@ -1,6 +1,4 @@
-use Rattle.model.specs.Record.{failed}
 use Rattle.endings.proofs.ending.failed.Goals as goal
 
 pub returns : goal.returns
-unfolding failed
-returns c = simp (c.with_sense.ensures, c.sense_of.ensures)
+returns c = rw c.number.ensures.0 at c.failed_by_number.ensures

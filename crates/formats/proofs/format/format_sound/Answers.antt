@@ -12,7 +12,7 @@ use Rattle.formats.proofs.format.format_sound.Goals as goal
 pub format_track-requires : goal.format_track-requires
 unfolding partner_of
 format_track-requires c =
-    (c.requires.0, omega arith, search rules)
+    (c.requires, omega arith, search rules)
 
 pub returns : goal.returns
 returns c =

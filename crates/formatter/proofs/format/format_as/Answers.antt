@@ -7,7 +7,7 @@ pub format_slots-requires : goal.format_slots-requires
 unfolding id_for
 format_slots-requires c =
     let s = c.stretch-place.ensures in
-    (stretch_whole _ _ c.args.map.now c.args.fill.now _ c.requires.3 c.requires.4 _ _ s.0 s.1 c.requires.0.long c.requires.1, omega arith, rw c.id_for-id.ensures c.requires.2, c.requires.5)
+    (stretch_whole _ _ c.args.map.now c.args.fill.bytes.now _ c.requires.3 c.requires.4 _ _ s.0 s.1 c.requires.0.long c.requires.1, omega arith, rw c.id_for-id.ensures c.requires.2)
 
 pub returns : goal.returns
 returns c =

@@ -1,6 +1,7 @@
+use mathlib.Core.Path.{ap}
 use native.Mathlib.Omega.{arith}
-use Prim.Native.Nat.{◌/◌, ◌<◌}
-use lib.ListN.{get_or}
+use Rattle.std.specs.Option.{unwrap_or}
+use Rattle.track.specs.Search.{Note}
 use Rattle.keeping.proofs.Stores.{step_leave, step_id, step_body, moved_partner, taken_partner}
 use Rattle.keeping.proofs.step.keep_step.Goals as goal
 
@@ -20,42 +21,7 @@ pub returns-then-i-eq0 : goal.returns-then-i-eq0
 returns-then-i-eq0 c =
     step_id _ c.args.from c.args.to _ _ _ _ _ c.if-copies-i.false c.if-i-eq0.true c.write_id-then-i-eq0.ensures
 
-pub overflow_cast-j : goal.overflow_cast-j
-overflow_cast-j c = omega (
-  arith,
-  (let sector : (get_or c.args.map.now (c.args.i / 2) 0 < c.args.p.sectors) =
-      c.requires.3.below (c.args.i / 2) (omega (arith, c.if-copies-i.false)) in sector),
-)
-
-pub bounds-slots-s : goal.bounds-slots-s
-bounds-slots-s c =
-    omega (
-      arith,
-      (let sector : (get_or c.args.map.now (c.args.i / 2) 0 < c.args.p.sectors) =
-          c.requires.3.below (c.args.i / 2) (omega (arith, c.if-copies-i.false)) in sector),
-      c.requires.4.long,
-      c.requires.0.within.sectors_most,
-    )
-
-pub overflow_cast-j-2 : goal.overflow_cast-j-2
-overflow_cast-j-2 c =
-    omega (
-      arith,
-      c.requires.4.below _ (let sector : (get_or c.args.map.now (c.args.i / 2) 0 < c.args.p.sectors) =
-          c.requires.3.below (c.args.i / 2) (omega (arith, c.if-copies-i.false)) in sector),
-      c.requires.0.within.sectors_most,
-    )
-
-pub write_body-requires : goal.write_body-requires
-write_body-requires c = (
-  c.requires.0,
-  c.requires.1,
-  c.requires.4.below _ (let sector : (get_or c.args.map.now (c.args.i / 2) 0 < c.args.p.sectors) =
-      c.requires.3.below (c.args.i / 2) (omega (arith, c.if-copies-i.false)) in sector),
-  c.requires.2,
-  omega (arith, c.if-copies-i.false),
-)
-
 pub returns : goal.returns
 returns c =
-    step_body _ c.args.from c.args.to _ _ _ _ _ c.if-copies-i.false c.if-i-eq0.false c.write_body.ensures
+    let there = ap (λ (o : Note). unwrap_or o 0) c.unwrap-j.ensures in
+    step_body _ c.args.from c.args.to _ _ _ _ _ c.if-copies-i.false c.if-i-eq0.false (rw there c.write_body.ensures)

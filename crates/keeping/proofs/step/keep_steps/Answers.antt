@@ -1,5 +1,5 @@
 use native.Mathlib.Omega.{arith}
-use Rattle.keeping.proofs.Stepping.{located_noting, stepped_none, stepped_fits, stepped_more, stepped_length, stepped_all}
+use Rattle.keeping.proofs.Stepping.{located_noting, stepped_none, stepped_fits, stepped_more}
 use Rattle.keeping.proofs.step.keep_steps.Goals as goal
 
 pub loop-i-init : goal.loop-i-init
@@ -19,11 +19,3 @@ keep_step-requires c =
 pub loop-i-preserved : goal.loop-i-preserved
 loop-i-preserved c =
     stepped_more _ _ _ _ _ c.requires.0 c.requires.1 c.requires.2 _ _ _ c.requires.5 c.loop-i.invariant _ c.requires.4 _ c.loop-i-test.true c.keep_step.ensures
-
-pub shape_of-image : goal.shape_of-image
-shape_of-image c =
-    stepped_length _ _ _ _ _ c.requires.0 c.requires.1 c.requires.2 _ _ _ c.requires.5 c.loop-i.invariant
-
-pub returns : goal.returns
-returns c =
-    stepped_all _ _ _ _ _ c.requires.0 c.requires.1 c.requires.2 _ _ _ c.requires.5 c.loop-i.invariant c.loop-i-test.false

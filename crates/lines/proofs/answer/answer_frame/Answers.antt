@@ -6,8 +6,8 @@ pub tell-requires : goal.tell-requires
 tell-requires c =
     search (rules, c.execute-outcome.auto, c.requires)
 
-pub returns : goal.returns
-returns c =
+pub returns-clause-says : goal.returns-clause-says
+returns-clause-says c =
     frame_answered _ c.args.frame.now c.args.area.now c.execute-outcome.new.area _ _ _ _ _ _ _ _ _
-    c.requires c.execute-outcome.auto.area c.block_length.ensures c.least-n.ensures c.least-handed.ensures
-    c.execute-outcome.ensures c.tell.ensures
+    c.requires c.execute-outcome.auto.area c.block_length.ensures c.min-n.ensures c.min-handed.ensures
+    c.execute-outcome.ensures.left c.tell.ensures

@@ -1,11 +1,7 @@
-use mathlib.Core.Path.{refl}
 use Rattle.lines.proofs.Hearings.{line_answered}
 use Rattle.lines.proofs.talk.answer.Goals as goal
 
-pub returns : goal.returns
-returns c =
+pub returns-clause-speaks : goal.returns-clause-speaks
+returns-clause-speaks c =
     let answered = c.answer_line-told in
-    record {
-      taken_value = refl;
-      speaks = line_answered c.args.session _ _ _ _ _ _ _ answered.result _ c.args.taken answered.ensures c.start.ensures;
-    }
+    line_answered c.args.session _ _ _ _ _ _ _ answered.result _ c.args.taken answered.ensures.says c.start.ensures

@@ -18,7 +18,7 @@ returns-then-end-input c =
     let heard =
     open_heard c.args.session c.args.input.now _ _ c.args.text.now _ _ _ _
     c.first_feed-end.ensures c.accept_all-line.ensures.0 c.if-end-input.true in
-    record { taken_value = heard.0; speaks = heard.1 }
+    record { taken_value = heard.0; speaks = heard.1; same = search rules }
 
 pub overflow_add-end : goal.overflow_add-end
 overflow_add-end c =
@@ -40,4 +40,4 @@ returns c =
     line_heard c.args.session c.args.input.now _ _ c.args.text.now _ _ _ _
     c.first_feed-end.ensures c.accept_all-line.ensures.0 c.if-end-input.false answered.result _ _ _
     answered.ensures.taken_value answered.ensures.speaks in
-    record { taken_value = heard.0; speaks = heard.1 }
+    record { taken_value = heard.0; speaks = heard.1; same = search rules }

@@ -1,16 +1,10 @@
-use Rattle.base.proofs.Decide.{decide}
-use Rattle.pouring.specs.Promises.{after_turn}
-use borrow.Author.Rules.{rules}
 use Rattle.pouring.proofs.turn.after_turn.Goals as goal
 
-pub returns-then-target-ne0 : goal.returns-then-target-ne0
-unfolding after_turn
-returns-then-target-ne0 c = search (rules, decide)
+pub returns-in-Some : goal.returns-in-Some
+returns-in-Some c = simp c.in-Some.is
 
-pub returns-then-source-ne0 : goal.returns-then-source-ne0
-unfolding after_turn
-returns-then-source-ne0 c = search (rules, decide)
+pub returns-in-Some-fault : goal.returns-in-Some-fault
+returns-in-Some-fault c = simp (c.in_default.is, c.in-Some-fault.is)
 
 pub returns : goal.returns
-unfolding after_turn
-returns c = search (rules, decide)
+returns c = simp (c.in_default.is, c.in_default-fault.is)

@@ -1,10 +1,7 @@
-use mathlib.Core.Path.{ap, ◌∙◌}
-use Rattle.track.specs.Pair.{splits}
+use mathlib.Core.Path.{◌∙◌}
+use borrow.Author.Tests.{lt-leb}
 use Rattle.track.proofs.Pairs.{low_flag}
 use Rattle.track.proofs.pair.splits_at.Goals as goal
 
-pub returns-then-id-lt2 : goal.returns-then-id-lt2
-returns-then-id-lt2 c = low_flag _ _ _ c.if-id-lt2.true _ _ c.first_id-id.ensures
-
-pub returns : goal.returns
-returns c = c.is_split.ensures ∙ ap (splits _ _) c.state_of.ensures
+pub returns-else-id-ge2 : goal.returns-else-id-ge2
+returns-else-id-ge2 c = lt-leb _ _ c.if-id-ge2.false ∙ low_flag _ _ _ c.if-id-ge2.false _ _ c.first_id-id.ensures
