@@ -15,7 +15,7 @@ fn with_sense(entry: Drive, sense: [u8; 4]) -> Drive
     Drive { sense, ..entry }
 }
 
-// The answer with numbers 1, 2 and 3, and that of Reset.
+// The answer with numbers 1, 2 and 3, and that of Reset. Of any number, as was promised before there was `Refusal`.
 pub fn bare_answer(number: u8) -> Answer
     ensures { result ≡ bare_answer number }
 {

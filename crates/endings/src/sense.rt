@@ -5,7 +5,7 @@ ghost use Rattle.model.specs.Premises.{address_limit};
 
 use geometry::params::Lba;
 
-// Whether the code of this number gives an address.
+// Whether the code of this number gives an address. By numbers, as `sense_of` promises its answer.
 #[tactic(auto, unfolding(model::specs::Sense::addressed))]
 fn is_addressed(code: u8) -> bool
     ensures { result ≡ addressed code }
@@ -15,7 +15,7 @@ fn is_addressed(code: u8) -> bool
     (code == 0x21) | ((code == 0x23) | (found | flagged))
 }
 
-// By the code's number.
+// By the code's number: any below 80h, as was promised before there was `Code`.
 // A call: in line its tests stand at each place where a code arises.
 #[inline(never)]
 #[tactic(auto, using(base::proofs::Decide::decide), unfolding(model::specs::Sense::sense_of))]

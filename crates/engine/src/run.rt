@@ -17,7 +17,7 @@ use model::block::{Block, CopyBlock};
 use model::record::{Answer, Controller, Drive, Ending, Outcome};
 use pouring::images::Images;
 
-// A command on the image of the drive that it names.
+// A command on the image of the drive that it names. By four calls: a `&mut` to one of four is not returned yet (docs/DECISIONS.md, D44).
 fn on_images(
     entry: Drive,
     b: Block,

@@ -19,6 +19,7 @@ pub struct Controller {
 #[repr(C)]
 #[derive(Clone, Copy)]
 pub struct Answer {
+    // 0 to 3, and no enum, since C reads it
     pub number: u8,
     pub status: u8,
     pub message: u8,

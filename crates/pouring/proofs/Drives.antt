@@ -14,10 +14,6 @@ use Rattle.pouring.specs.declared.images.Images.{Images}
 use Rattle.pouring.specs.Lent.{SameLent}
 use Rattle.pouring.specs.Promises.{WrittenOn}
 
-pub image_there : (images : List (List ℕ)) (drive k : ℕ) → drive ≡ k → get_or images k [] ≡ image_of drive images
-unfolding image_of
-image_there images drive k e = ap (λ (i : ℕ). get_or images i []) (sym e)
-
 module _ (p : Params) (images : List (List ℕ)) (drive k : ℕ) (e : drive ≡ k) where
   pub fits_on : Fits p (image_of drive images) → Fits p (get_or images k [])
   unfolding image_of

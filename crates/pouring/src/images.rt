@@ -30,12 +30,8 @@ impl Images<'_> {
         requires { drive < 4 }
         ensures { result.now ≡ image_of drive (lent self.now) }
     {
-        match drive {
-            0 => &*self.image0,
-            1 => &*self.image1,
-            2 => &*self.image2,
-            _ => &*self.image3,
-        }
+        let images = self.shared();
+        images[drive as usize]
     }
 
     // All four, to be read.

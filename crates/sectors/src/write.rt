@@ -1,4 +1,5 @@
-// Sectors written, in address order.
+// Sectors written, in address order. Each function stands beside its like in `read`: there the data area is lent to be changed, here the
+// image, and the promises are of that. One form for both would be a trait with laws, which is longer than the pairs.
 ghost use Rattle.std.specs.Prelude.{◌≡◌, ◌+◌, ◌*◌, ◌≤◌, ◌<◌, length};
 ghost use Rattle.geometry.specs.Params.{sector_of, address_count, OnDrive};
 ghost use Rattle.track.specs.Image.{Fits};

@@ -47,6 +47,7 @@ fn where_by(t: Track, id: Id, own: bool, taken: bool) -> Result<Track, Code>
     if !own {
         return Err(Code::OtherTrack);
     }
+    // by the flag as it is on the disk, where any byte may stand
     match id.flag {
         0 => Ok(t),
         1 => Err(Code::BadTrack),

@@ -16,6 +16,7 @@ fn state_by(id: Id, own: bool) -> State
     if id.mark != ID_MARK || !own {
         return State::Sound;
     }
+    // by the flag as it is on the disk, where any byte may stand
     match id.flag {
         1 => State::Bad,
         2 => State::Moved(id.partner),

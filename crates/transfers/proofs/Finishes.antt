@@ -7,12 +7,6 @@ use native.Mathlib.Omega.{arith}
 use native.Mathlib.Nat.{mul-le-mul_right}
 use lib.ListN.{length}
 use lib.Dec.{eqb}
-use borrow.Author.Tests.{ne_eqb}
-use Rattle.std.specs.Prelude.{Option, Some, None}
-use Rattle.codes.specs.declared.Code.{Code}
-use Rattle.codes.specs.Numbers.{number_of, code_number}
-use Rattle.codes.proofs.Faults.{code_some}
-use Rattle.base.proofs.Decide.{pick-false}
 use Rattle.base.specs.Pick.{pick}
 use Rattle.base.specs.Part.{splice}
 use Rattle.geometry.specs.declared.params.Lba.{Lba}
@@ -22,7 +16,7 @@ use Rattle.model.specs.declared.block.Block.{Block}
 use Rattle.model.specs.declared.record.Drive.{Drive}
 use Rattle.model.specs.declared.record.Ending.{Ending}
 use Rattle.model.specs.Block.{count_of}
-use Rattle.model.specs.Record.{effect, good, failed}
+use Rattle.model.specs.Record.{effect}
 use Rattle.model.specs.Commands.{transfer_ending, transferred}
 use Rattle.model.specs.Premises.{address_limit}
 
@@ -33,19 +27,6 @@ pub transfer_is : (b : Block) (entry : Drive) (x : Transfer) (sectors code bytes
     → effect r after x.handed x.image ≡ transferred b entry before x
 unfolding transferred
 transfer_is b entry x sectors code bytes last before after r ea er es ec eb el = rw (er, ea, es, ec, eb, el)
-
--- by whether a sector failed
-module _ (b : Block) (entry : Drive) (fault : Option Code) (sectors bytes : ℕ) where
-  pub ended_well : {r : Ending} → fault ≡ None → r ≡ good b.drive sectors bytes entry
-      → r ≡ transfer_ending b sectors (code_number fault) bytes entry
-  unfolding transfer_ending pick
-  ended_well e er = rw e er
-
-  pub ended_ill : {r : Ending} → (code : Code) → fault ≡ Some code → (at : Lba) → at ≡ further b.address sectors
-      → r ≡ failed b.drive b.drive (number_of code) at sectors bytes entry
-      → r ≡ transfer_ending b sectors (code_number fault) bytes entry
-  unfolding transfer_ending
-  ended_ill code e at ea er = rw (e, pick-false _ _ _ (ne_eqb _ _ (code_some code)), ← ea) er
 
 -- ---- counts
 pick_most : (t : Bool) (m n k : ℕ) → m ≤ k → n ≤ k → pick t m n ≤ k

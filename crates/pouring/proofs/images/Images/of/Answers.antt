@@ -1,16 +1,13 @@
-use native.Mathlib.Omega.{arith}
-use Rattle.pouring.specs.Lent.{lent}
-use Rattle.pouring.proofs.Drives.{image_there}
+use mathlib.Core.Path.{sym, ap, ◌∙◌}
+use mathlib.Core.List.{List, []}
+use lib.ListN.{get_or-map}
+use Rattle.std.specs.Prelude.{ℕ}
+use Rattle.std.proofs.Common.{Bor}
+use Rattle.copying.specs.Images.{image_of}
 use Rattle.pouring.proofs.images.Images.of.Goals as goal
 
-pub returns-in-0 : goal.returns-in-0
-returns-in-0 c = image_there (lent c.args.self.now) c.args.drive 0 c.in-0.is
-
-pub returns-in-1 : goal.returns-in-1
-returns-in-1 c = image_there (lent c.args.self.now) c.args.drive 1 c.in-1.is
-
-pub returns-in-2 : goal.returns-in-2
-returns-in-2 c = image_there (lent c.args.self.now) c.args.drive 2 c.in-2.is
-
-pub returns-in_default : goal.returns-in_default
-returns-in_default c = image_there (lent c.args.self.now) c.args.drive 3 (omega (arith, c.requires, c.in_default))
+pub returns : goal.returns
+unfolding image_of
+returns c =
+    sym (get_or-map (λ (i : Bor (List ℕ)). i.now) c.shared-images.result c.args.drive (record { ref_ptr = (0, 0); now = [] }))
+    ∙ ap (image_of c.args.drive) c.shared-images.ensures
