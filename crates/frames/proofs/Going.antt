@@ -46,9 +46,6 @@ left_less rest n part = simp (length-take, length-drop) (omega (arith, part.0, p
 pub front_all : {held holds : Option (List ℕ)} {text : List ℕ} → Appends held holds text → WritesFront held holds text
 front_all {text} h = record { front = text; rest = []; is = sym (append-nil text); written = h }
 
-pub front_none : (held : Option (List ℕ)) {holds : Option (List ℕ)} (text : List ℕ) → Keeps held holds → WritesFront held holds text
-front_none held text h = record { front = []; rest = text; is = refl; written = Appends-kept held held _ [] (Appends-nil held) h }
-
 -- behind what is written, a front of the next text
 pub front_behind : (held mid holds : Option (List ℕ)) (said text later : List ℕ) → Appends held mid said → WritesFront mid holds text
     → WritesFront held holds (said ++ (text ++ later))
@@ -178,13 +175,6 @@ onward_read {given} {left} o left' r = record {
   read = rw (append-nil o.heard) at (Consumes-trans given left left' o.heard [] o.read r);
   written = o.written;
 }
-
--- a reader that kept its bytes at reads that were interrupted
-pub kept_consumes : (a b c : Option (List ℕ)) (bs : List ℕ) → Keeps a b → Consumes b c bs → Consumes a c bs
-kept_consumes None b c bs k r = tt
-kept_consumes (Some x) None c bs k r = absurd k
-kept_consumes (Some x) (Some y) None bs k r = absurd r
-kept_consumes (Some x) (Some y) (Some z) bs k r = sym k ∙ r
 
 -- what holds after an `Ok` holds where it is one, and after an `Err`
 pub gone_on : {T E P : Type 0} {r : Result T E} {v : T} → r ≡ Ok v → OnOk r P → P

@@ -15,7 +15,7 @@ use hex_text::text::encode;
 use model::record::{Answer, Controller};
 use pouring::images::Images;
 
-const LINE_FEED: u8 = 0x0A;
+pub const LINE_FEED: u8 = 0x0A;
 
 // The controller after a line, and the length of the text that answers it.
 #[derive(Clone, Copy)]

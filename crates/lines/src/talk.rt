@@ -5,13 +5,11 @@ ghost use Rattle.lines.specs.Talk.{answered, talked, closed};
 ghost use Rattle.lines.specs.Frames.{first_talk, Talking};
 ghost use Rattle.lines.specs.Hearing.{talk_now, Speaks, AtFirst, text_length, feed_at, line_end};
 
-use crate::answer::answer_line;
+use crate::answer::{LINE_FEED, answer_line};
 use drives::reset::fresh;
 use hex_text::line::{Line, accept_all, is_begun, start};
 use model::record::Controller;
 use pouring::images::Images;
-
-const LINE_FEED: u8 = 0x0A;
 
 // The controller, and what is read of the line under way.
 #[derive(Clone, Copy)]
