@@ -128,20 +128,20 @@ module _ (p : Params) (first : ℕ) (a alternate : Lba) (image : List ℕ) (verd
 
   -- a fault gives the block's address, or the alternate's, which is looked at only where the first byte is at most 1Fh
   pub fault_below : (m : ℕ) → a.0 < m → (first ≤ 0x1F → alternate.0 < m) → (code : ℕ) (at : Lba) → verdict ≡ Faulty code at
-      → at.0 < m
+      → (code < 0x80) × (at.0 < m)
   unfolding assign_tests
   fault_below m ha hb code at e =
-      let P : ℕ → Lba → Type 0 = λ k l. l.0 < m in
-      fault_in P code at _ _ _ _ ha
+      let P : ℕ → Lba → Type 0 = λ k l. (k < 0x80) × (l.0 < m) in
+      fault_in P code at _ _ _ _ (omega arith, ha)
       (λ z.
       let h = hb (ltb-false _ _ z) in
-      fault_in P code at _ _ _ _ h
-      (λ _. fault_in P code at _ _ _ _ ha
-      (λ _. fault_in P code at _ _ _ _ ha
-      (λ _. fault_in P code at _ _ _ _ ha
-      (λ _. fault_in P code at _ _ _ _ h
-      (λ _. fault_in P code at _ _ _ _ h
-      (λ _. fault_in P code at _ _ _ _ ha
+      fault_in P code at _ _ _ _ (omega arith, h)
+      (λ _. fault_in P code at _ _ _ _ (omega arith, ha)
+      (λ _. fault_in P code at _ _ _ _ (omega arith, ha)
+      (λ _. fault_in P code at _ _ _ _ (omega arith, ha)
+      (λ _. fault_in P code at _ _ _ _ (omega arith, h)
+      (λ _. fault_in P code at _ _ _ _ (omega arith, h)
+      (λ _. fault_in P code at _ _ _ _ (omega arith, ha)
       (λ _. fault_none P code at))))))))
       (sym ev ∙ e)
 

@@ -1,5 +1,6 @@
 // Byte slices: moved, set, told from one byte repeated.
 ghost use Rattle.std.specs.Prelude.{◌≡◌, ◌+◌, ◌*◌, ◌≤◌, length, replicate};
+ghost use Rattle.base.specs.Part.{part, splice};
 ghost use Rattle.base.specs.Same.{one_byte};
 
 // All of src into dst, which is as long, for sectors: up to 512 bytes go through a local array, of which LLVM makes one memmove. It is
@@ -17,6 +18,19 @@ pub fn move_bytes(dst: &mut [u8], src: &[u8])
     let mut room = [0u8; 512];
     room[..n].copy_from_slice(src);
     dst.copy_from_slice(&room[..n]);
+}
+
+// The same within one slice, for a sector's data and for what goes to a front: again one memmove. Std's `copy_within` is a loop of the
+// bytes, which takes more.
+pub fn copy_within(bytes: &mut [u8], from: usize, to: usize, size: usize)
+    requires { (from + size ≤ length bytes.old) × (to + size ≤ length bytes.old) × (size ≤ 512) }
+    ensures { bytes.new ≡ splice to (part from size bytes.old) bytes.old }
+{
+    let mut room = [0u8; 512];
+    let end = from + size;
+    room[..size].copy_from_slice(&bytes[from..end]);
+    let past = to + size;
+    bytes[to..past].copy_from_slice(&room[..size]);
 }
 
 // Every byte becomes this one: one memset. `fill` stores the last byte for itself, 7 instructions more for each slot that is formatted.

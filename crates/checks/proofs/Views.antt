@@ -40,18 +40,18 @@ module _ (medium : Medium) (entry : Drive) (image : ℕ) (v : View) (is : v ≡ 
   unfolding view_of setting_in
   view_at_least_128 = rw is (at_least_128_pick entry.known _ (λ p e. setting_some medium _ _ p e))
 
--- ---- the codes of a drive's row all go with the block's address
+-- ---- the codes of a drive's row are below 80h, and all go with the block's address
 pub fault_over : (b : Block) (reach : ℕ) (v : View) (given area : ℕ) (verdict : Verdict) → verdict ≡ judge_over b reach v given area
-    → (code : ℕ) (at : Lba) → verdict ≡ Faulty code at → b.address.0 < address_limit → at.0 < address_limit
+    → (code : ℕ) (at : Lba) → verdict ≡ Faulty code at → b.address.0 < address_limit → (code < 0x80) × (at.0 < address_limit)
 unfolding in_order
 fault_over b reach v given area verdict is code at e h =
-    let P : ℕ → Lba → Type 0 = λ k l. l.0 < address_limit in
-    fault_in P code at _ _ _ _ h (λ _.
-    fault_in P code at _ _ _ _ h (λ _.
-    fault_in P code at _ _ _ _ h (λ _.
-    fault_in P code at _ _ _ _ h (λ _.
-    fault_in P code at _ _ _ _ h (λ _.
-    fault_in P code at _ _ _ _ h (λ _.
-    fault_in P code at _ _ _ _ h (λ _.
+    let P : ℕ → Lba → Type 0 = λ k l. (k < 0x80) × (l.0 < address_limit) in
+    fault_in P code at _ _ _ _ (omega arith, h) (λ _.
+    fault_in P code at _ _ _ _ (omega arith, h) (λ _.
+    fault_in P code at _ _ _ _ (omega arith, h) (λ _.
+    fault_in P code at _ _ _ _ (omega arith, h) (λ _.
+    fault_in P code at _ _ _ _ (omega arith, h) (λ _.
+    fault_in P code at _ _ _ _ (omega arith, h) (λ _.
+    fault_in P code at _ _ _ _ (omega arith, h) (λ _.
     fault_past P code at _ _ _ (λ _. fault_past P code at _ _ _ (λ _. fault_none P code at)))))))))
     (sym is ∙ e)

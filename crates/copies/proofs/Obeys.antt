@@ -51,7 +51,7 @@ module _ (k : CopyBlock) (source : Drive) (buffer : List ℕ) (images : List (Li
 
 -- ---- what is said fits the sense: the code, its address, and the drive that it names
 abbrev Sayable : Judgement → Type 0
-Sayable said = (code : ℕ) (at : Lba) → said.verdict ≡ Faulty code at → (said.named < 4) × (at.0 < address_limit)
+Sayable said = (code : ℕ) (at : Lba) → said.verdict ≡ Faulty code at → (said.named < 4) × (code < 0x80) × (at.0 < address_limit)
 
 said_by : (verdict : Verdict) (first second : Judgement) → Sayable first → Sayable second → Sayable (saying_of verdict first second)
 unfolding saying_of
@@ -62,15 +62,16 @@ said_by Passed first second f s = s
 module _ (k : CopyBlock) (v w : View) (from : WellFormed k.from) (to : WellFormed k.to) where
   shared_below : (hit : Bool) → Sayable (record { named = k.from.drive; verdict = judged (on hit 0x22 k.from.address ∷ []) })
   shared_below hit code at e =
-      let P : ℕ → Lba → Type 0 = λ c l. l.0 < address_limit in
-      (from.drive, fault_in P code at hit 0x22 k.from.address [] from.address (λ _. fault_none P code at) e)
+      let P : ℕ → Lba → Type 0 = λ c l. (c < 0x80) × (l.0 < address_limit) in
+      let b = fault_in P code at hit 0x22 k.from.address [] (omega arith, from.address) (λ _. fault_none P code at) e in
+      (from.drive, b.0, b.1)
 
   pub copy_below : (said : Judgement) → said ≡ judge_copy k v w → Sayable said
   unfolding judge_copy judge
   copy_below said is =
       rw is
-      (said_by _ _ _ (λ code at e. (from.drive, fault_over k.from _ v 0 0 _ refl code at e from.address))
-      (said_by _ _ _ (λ code at e. (to.drive, fault_over k.to _ w 0 0 _ refl code at e to.address)) (shared_below _)))
+      (said_by _ _ _ (λ code at e. let b = fault_over k.from _ v 0 0 _ refl code at e from.address in (from.drive, b.0, b.1))
+      (said_by _ _ _ (λ code at e. let b = fault_over k.to _ w 0 0 _ refl code at e to.address in (to.drive, b.0, b.1)) (shared_below _)))
 
 -- ---- where all is passed, it can go on
 passed_faulty : (code : ℕ) (at : Lba) → Faulty code at ≡ Passed → ⊥

@@ -22,9 +22,9 @@ use Rattle.endings.specs.Left.{Left, left_now, left_by}
 use Rattle.dispatch.specs.Ready.{Admitted}
 use Rattle.dispatch.proofs.Carries.{left_unhanded}
 
--- ---- the codes of the order all go with the block's address
+-- ---- the codes of the order are below 80h, and all go with the block's address
 pub fault_below : (b : Block) (v : View) (given area : ℕ) (verdict : Verdict) → verdict ≡ judge b v given area
-    → (code : ℕ) (at : Lba) → verdict ≡ Faulty code at → b.address.0 < address_limit → at.0 < address_limit
+    → (code : ℕ) (at : Lba) → verdict ≡ Faulty code at → b.address.0 < address_limit → (code < 0x80) × (at.0 < address_limit)
 unfolding judge
 fault_below b v given area verdict is code at e h = fault_over b _ v given area verdict is code at e h
 

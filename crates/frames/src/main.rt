@@ -187,7 +187,7 @@ fn run<R: Read, W: Write>(reader: &mut R, writer: &mut W) -> io::Result<()>
         image2: &mut image2,
         image3: &mut image3,
     };
-    let first = begin(&bytes, &area, &images);
+    let first = begin(&bytes, &area, images.shared());
     let last = converse(
         reader,
         writer,

@@ -1,19 +1,20 @@
 -- What a label gives, as the code decides on it. An image under 16 bytes has no six bytes from place 10 on.
 use mathlib.Core.Path.{◌≡◌, refl, sym, ap, ◌∙◌}
-use mathlib.Core.Bool.{Bool, true, false, not}
-use mathlib.Core.List.{List, ◌++◌}
+use mathlib.Core.Bool.{Bool, true, false}
+use mathlib.Core.List.{List, [], ◌∷◌, ◌++◌}
 use Prim.Native.Nat.{ℕ, ◌+◌, ◌≤◌, ◌<◌}
 use native.Mathlib.Omega.{arith}
-use native.Mathlib.Decide.{dec_lt}
-use lib.ListN.{length, take, drop, length-take, length-drop, length-append}
-use lib.Seq.{take_all}
+use native.Mathlib.Decide.{ℕ_discrete, dec_lt}
+use lib.ListN.{length, get_or, length-take, length-drop, length-append}
+use lib.Seq.{take_all, drop-cons}
 use lib.Dec.{eqb}
 use lib.Pointwise.{pointwise}
+use borrow.Author.Tests.{eq-eqb, ne_eqb}
+use Rattle.std.specs.Int.{from_be_bytes, w64}
 use Rattle.base.specs.Part.{part}
 use Rattle.base.specs.Same.{same_bytes}
 use Rattle.base.proofs.Decide.{pick_true, pick-false}
 use Rattle.base.proofs.Parts.{part_left, part_right, part_part}
-use Rattle.base.proofs.Bools.{not-true, not-false}
 use Rattle.base.proofs.Sames.{same_self, same_eq, same_pointwise}
 use Rattle.geometry.specs.declared.params.Params.{Params}
 use Rattle.geometry.specs.declared.medium.Medium.{Medium}
@@ -34,26 +35,66 @@ pub part_short : (at size : ℕ) (xs : List ℕ) → 0 < size → length xs < at
 unfolding part
 part_short at size xs s h e = omega (arith, simp (length-take, length-drop) at e)
 
+-- the six bytes behind the configuration
+six : (image : List ℕ) → 16 ≤ length image
+    → part 10 6 image ≡ get_or image 10 0 ∷ get_or image 11 0 ∷ get_or image 12 0 ∷ get_or image 13 0 ∷ get_or image 14 0 ∷ get_or image 15 0 ∷ []
+unfolding part
+six image h =
+    rw (
+      drop-cons image 10 0 (omega arith),
+      drop-cons image 11 0 (omega arith),
+      drop-cons image 12 0 (omega arith),
+      drop-cons image 13 0 (omega arith),
+      drop-cons image 14 0 (omega arith),
+      drop-cons image 15 0 (omega arith),
+    )
+
+-- whose number is 0, they are zeros
+all_zero : (a b c d e f : ℕ) → from_be_bytes w64 (0 ∷ 0 ∷ a ∷ b ∷ c ∷ d ∷ e ∷ f ∷ []) ≡ 0 → (a ∷ b ∷ c ∷ d ∷ e ∷ f ∷ []) ≡ label_rest
+all_zero a b c d e f z =
+    let za : a ≡ 0 = omega arith in
+    let zb : b ≡ 0 = omega arith in
+    let zc : c ≡ 0 = omega arith in
+    let zd : d ≡ 0 = omega arith in
+    let ze : e ≡ 0 = omega arith in
+    let zf : f ≡ 0 = omega arith in
+    cc
+
+-- they are zeros exactly if it is 0
+six_zeros : (a b c d e f : ℕ) → same_bytes (a ∷ b ∷ c ∷ d ∷ e ∷ f ∷ []) label_rest ≡ eqb (from_be_bytes w64 (0 ∷ 0 ∷ a ∷ b ∷ c ∷ d ∷ e ∷ f ∷ [])) 0
+six_zeros a b c d e f = by (ℕ_discrete number 0) _ refl
+  where
+    bytes : List ℕ
+    bytes = a ∷ b ∷ c ∷ d ∷ e ∷ f ∷ []
+
+    number : ℕ
+    number = from_be_bytes w64 (0 ∷ 0 ∷ bytes)
+
+    by : Dec (number ≡ 0) → (same : Bool) → same_bytes bytes label_rest ≡ same → same_bytes bytes label_rest ≡ eqb number 0
+    by (yes z) same q = ap (λ (l : List ℕ). same_bytes l label_rest) (all_zero a b c d e f z) ∙ same_self label_rest ∙ sym (eq-eqb number 0 z)
+    by (no ne) true q = absurd (ne (ap (λ (l : List ℕ). from_be_bytes w64 (0 ∷ 0 ∷ l)) (same_eq bytes label_rest q)))
+    by (no ne) false q = q ∙ sym (ne_eqb number 0 ne)
+
 module _ (medium : Medium) (image : List ℕ) where
   pub label_short : length image < 16 → None ≡ label_setting medium image
   unfolding label_setting
   label_short h = sym (pick-false _ _ _ (not_same _ _ (part_short 10 6 image (omega arith) h)))
 
-  -- as the code compares the six bytes
-  module _ (differ : Bool) (is : differ ≡ not (pointwise eqb (take 6 (drop 10 image)) label_rest)) where
-    zeros : (b : Bool) → pointwise eqb (take 6 (drop 10 image)) label_rest ≡ b → same_bytes (part 10 6 image) label_rest ≡ b
-    unfolding part
-    zeros b e = sym (same_pointwise _ _) ∙ e
+  -- as the code compares the six bytes: as one number, high byte first
+  module _ (long : 16 ≤ length image) (number : ℕ)
+      (is : number ≡ from_be_bytes w64 (0 ∷ 0 ∷ get_or image 10 0 ∷ get_or image 11 0 ∷ get_or image 12 0 ∷ get_or image 13 0 ∷ get_or image 14 0 ∷ get_or image 15 0 ∷ [])) where
+    zeros : same_bytes (part 10 6 image) label_rest ≡ eqb number 0
+    zeros = ap (λ (l : List ℕ). same_bytes l label_rest) (six image long) ∙ six_zeros _ _ _ _ _ _ ∙ ap (λ (n : ℕ). eqb n 0) (sym is)
 
-    pub label_other : differ ≡ true → None ≡ label_setting medium image
+    pub label_other : (number ≡ 0 → ⊥) → None ≡ label_setting medium image
     unfolding label_setting
-    label_other t = sym (pick-false _ _ _ (zeros false (not-true _ (sym is ∙ t))))
+    label_other ne = sym (pick-false _ _ _ (zeros ∙ ne_eqb number 0 ne))
 
-    pub label_zeros : differ ≡ false → (config : List ℕ) → config ≡ label_config image → (s : Setting) → s ≡ setting_of medium config (length image)
+    pub label_zeros : number ≡ 0 → (config : List ℕ) → config ≡ label_config image → (s : Setting) → s ≡ setting_of medium config (length image)
         → s ≡ label_setting medium image
     unfolding label_setting
-    label_zeros t config c s e =
-        e ∙ ap (λ (l : List ℕ). setting_of medium l (length image)) c ∙ sym (pick_true _ _ _ (zeros true (not-false _ (sym is ∙ t))))
+    label_zeros z config c s e =
+        e ∙ ap (λ (l : List ℕ). setting_of medium l (length image)) c ∙ sym (pick_true _ _ _ (zeros ∙ eq-eqb number 0 z))
 
 -- ---- A valid label, and what it holds
 not_valid : (p : Params) → None ≡ Some p → ⊥

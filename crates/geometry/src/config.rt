@@ -126,7 +126,11 @@ pub fn label_setting(medium: Medium, image: &[u8]) -> Option<Params>
     if image.len() < 16 {
         return None;
     }
-    if image[10..16] != [0; 6] {
+    // The six bytes behind the configuration, as one number: compared as a slice they are a call, and a Reset takes a quarter more.
+    let rest = u64::from_be_bytes([
+        0, 0, image[10], image[11], image[12], image[13], image[14], image[15],
+    ]);
+    if rest != 0 {
         return None;
     }
     setting_of(medium, config_in(image), image.len())

@@ -3,7 +3,6 @@ ghost use Rattle.std.specs.Prelude.{◌≡◌};
 ghost use Rattle.hex_text.specs.Frame.{is_reset};
 
 // FF alone.
-#[tactic(auto, using(crate::proofs::Frames::reset_pointwise))]
 pub fn is_reset(frame: &[u8]) -> bool
     ensures { result ≡ is_reset frame.now }
 {

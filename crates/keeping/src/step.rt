@@ -7,6 +7,7 @@ ghost use Rattle.track.specs.Id.{id_bytes, id_for};
 ghost use Rattle.track.specs.Image.{Fits, track_bytes, slot_data};
 ghost use Rattle.keeping.specs.Keep.{slot_start, after_write, write_with, noted_data, after_writes, kept, Mapped, Noting, Located, Keepable};
 
+use base::bytes::copy_within;
 use geometry::params::{Params, Track};
 use track::id::{id_bytes, id_for};
 use track::state::State;
@@ -37,7 +38,7 @@ fn write_body(image: &mut [u8], p: Params, from: Track, j: usize, to: Track, k: 
 {
     let source = slot_start(p, from, j) + 8;
     let place = slot_start(p, to, k) + 8;
-    image.copy_within(source..source + p.size, place);
+    copy_within(image, source, place, p.size);
 }
 
 // Write i of a move; `slots` has the slot of each sector of track `from`. Which write it is goes by a number, since what holds after a

@@ -51,22 +51,24 @@ drop_most n xs = take_all (length xs - min n (length xs)) (drop (min n (length x
     by (yes h) = let e : min n (length xs) ≡ n = omega arith in rw e
     by (no h) = drop_of_length-le xs {i = min n (length xs)} (omega arith) ∙ sym (drop_of_length-le xs {i = n} (omega arith))
 
--- ---- the answer to a frame: a part lent from the front is `take (k - 0)`
-pub frame_answered : (c : Controller) (frame area area' text after : List ℕ) (images images' : List (List ℕ)) (outcome : Outcome) (long k m n : ℕ)
+-- ---- the answer to a frame: a part lent from the front is `take (k - 0)`. The images that `execute` is given and those that it leaves
+-- are known by equations, so that a struct which lends them again is proved the same way.
+pub frame_answered : (c : Controller) (frame area area' text after : List ℕ) (images images' given left : List (List ℕ)) (outcome : Outcome)
+    (long k m n : ℕ) → given ≡ images → images' ≡ left
     → 7 + 2 * length area ≤ length text → length area' ≡ length area
     → long ≡ block_length frame → k ≡ min long (length frame) → m ≡ min outcome.answer.bytes (length area')
-    → result_now outcome area' images' ≡ execute c (take (k - 0) frame) (take (length frame - k) (drop k frame)) area images
+    → result_now outcome area' left ≡ execute c (take (k - 0) frame) (take (length frame - k) (drop k frame)) area given
     → (n ≡ 7 + 2 * length (take (m - 0) area')) × (after ≡ splice 0 (answer_text outcome.answer (take (m - 0) area')) text)
     → Says (frame_said c frame area images) (record { controller = outcome.controller; length = n }) text after area' images'
 unfolding frame_said result_said
-frame_answered c frame area area' text after images images' outcome long k m n room same el ek em done told =
+frame_answered c frame area area' text after images images' given left outcome long k m n lent_is left_is room same el ek em done told =
     let handed : List ℕ = take (m - 0) area' in
     let l : length handed ≤ length area = rw (length-take (m - 0) area') (omega arith) in
     let all : handed ≡ take outcome.answer.bytes area' = rw (sub-zero m, em) (take_most outcome.answer.bytes area') in
     let block : take (k - 0) frame ≡ take (block_length frame) frame = rw (sub-zero k, ek, el) (take_most (block_length frame) frame) in
     let rest : take (length frame - k) (drop k frame) ≡ drop (block_length frame) frame = rw (ek, el) (drop_most (block_length frame) frame) in
     let result : result_now outcome area' images' ≡ execute c (take (block_length frame) frame) (drop (block_length frame) frame) area images =
-    rw (← block, ← rest) done in
+    rw (← block, ← rest, ← lent_is, left_is) done in
     let count : n ≡ length (answer_text outcome.answer handed) = told_length outcome.answer handed text (omega arith) n told.0 in
     let written = front_taken (answer_text outcome.answer handed) text after n count told.1 in
     rw (← result, ← all) (rw written, count, told.1)

@@ -1,5 +1,5 @@
 // The program's input, taken a line at a time: where the program stands, and what it says.
-ghost use Rattle.std.specs.Prelude.{◌≡◌, ◌+◌, ◌*◌, ◌≤◌, length, take};
+ghost use Rattle.std.specs.Prelude.{◌≡◌, ◌+◌, ◌*◌, ◌≤◌, length, take, map};
 ghost use Rattle.pouring.specs.Lent.{lent, SameLent};
 ghost use Rattle.lines.specs.Talk.{answered, talked, closed};
 ghost use Rattle.lines.specs.Frames.{first_talk, Talking};
@@ -27,12 +27,12 @@ pub struct Heard {
 }
 
 // Before the first character, with zeros in every slice that the program goes on to lend.
-pub fn begin(bytes: &[u8], area: &[u8], images: &Images) -> Session
-    requires { AtFirst bytes.now area.now (lent images.now) }
-    ensures { talk_now result bytes.now area.now (lent images.now) ≡ first_talk }
+pub fn begin(bytes: &[u8], area: &[u8], images: [&[u8]; 4]) -> Session
+    requires { AtFirst bytes.now area.now (map (λ image. image.now) images) }
+    ensures { talk_now result bytes.now area.now (map (λ image. image.now) images.entry) ≡ first_talk }
 {
     Session {
-        controller: fresh(images.shared()),
+        controller: fresh(images),
         line: start(),
     }
 }

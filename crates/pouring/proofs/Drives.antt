@@ -2,7 +2,9 @@
 use mathlib.Core.Path.{◌≡◌, sym, ap, ◌∙◌}
 use mathlib.Core.List.{List, []}
 use Prim.Native.Nat.{ℕ}
-use lib.ListN.{get_or, set}
+use lib.ListN.{get_or, set, get_or-map}
+use Rattle.std.specs.Prelude.{map}
+use Rattle.std.proofs.Common.{Bor}
 use Rattle.geometry.specs.declared.params.Params.{Params}
 use Rattle.geometry.specs.declared.params.Lba.{Lba}
 use Rattle.track.specs.Image.{Fits}
@@ -38,3 +40,9 @@ same_more a b c s t = record {
   length2 = t.length2 ∙ s.length2;
   length3 = t.length3 ∙ s.length3;
 }
+
+-- ---- four images lent to be read
+pub image_shared : (images : List (Bor (List ℕ))) (drive : ℕ)
+    → (get_or images drive (record { ref_ptr = (0, 0); now = [] })).now ≡ image_of drive (map (λ (i : Bor (List ℕ)). i.now) images)
+unfolding image_of
+image_shared images drive = sym (get_or-map (λ (i : Bor (List ℕ)). i.now) images drive (record { ref_ptr = (0, 0); now = [] }))

@@ -79,6 +79,6 @@ pub fn copy_sectors(r: Route, n: usize, buffer: &mut [u8; 512], images: &mut Ima
 {
     let mut scratch = [0u8; SCRATCH];
     let copied = copy_through(r, n, &mut scratch[0..SCRATCH], images);
-    keep_done(r, copied.done, buffer, images);
+    keep_done(r, copied.done, buffer, images.shared());
     copied
 }

@@ -47,7 +47,7 @@ impl Images<'_> {
             × (a.0 + n ≤ address_count p) × (n * p.size ≤ length places.old) }
         ensures { HasRead p n a (image_of drive (lent self.now)) result places.old places.new }
     {
-        read_sectors(self.of(drive), p, a, n, places)
+        read_on(drive, p, a, n, places, self.shared())
     }
 
     // n sectors of a drive, from address a on, from the data given. By four calls: a `&mut` to one of four is not returned yet (D44).
@@ -68,6 +68,22 @@ impl Images<'_> {
     }
 }
 
+// The same, where the four images are lent to be read alone.
+pub fn read_on(
+    drive: u8,
+    p: Params,
+    a: Lba,
+    n: usize,
+    places: &mut [u8],
+    images: [&[u8]; 4],
+) -> Done
+    requires { (drive < 4) × Fits p (image_of drive (map (λ image. image.now) images))
+        × (a.0 + n ≤ address_count p) × (n * p.size ≤ length places.old) }
+    ensures { HasRead p n a (image_of drive (map (λ image. image.now) images.entry)) result places.old places.new }
+{
+    read_sectors(images[drive as usize], p, a, n, places)
+}
+
 // n destination sectors behind those done.
 pub fn store_sectors(r: Route, done: usize, n: usize, given: &[u8], images: &mut Images) -> Done
     requires { (r.target < 4) × Fits r.q (image_of r.target (lent images.old))
@@ -80,15 +96,22 @@ pub fn store_sectors(r: Route, done: usize, n: usize, given: &[u8], images: &mut
 }
 
 // The last destination sector done, as it reads now, goes to the buffer's front.
-pub fn keep_done(r: Route, done: usize, buffer: &mut [u8; 512], images: &Images)
-    requires { (r.target < 4) × Fits r.q (image_of r.target (lent images.now))
+pub fn keep_done(r: Route, done: usize, buffer: &mut [u8; 512], images: [&[u8]; 4])
+    requires { (r.target < 4) × Fits r.q (image_of r.target (map (λ image. image.now) images))
         × (r.b.0 + done ≤ address_count r.q) }
-    ensures { buffer.new ≡ splice 0 (last_read r done (lent images.now)) buffer.old }
+    ensures { buffer.new ≡ splice 0 (last_read r done (map (λ image. image.now) images.entry)) buffer.old }
 {
     if done == 0 {
         return;
     }
     let size = r.q.size;
     let b = r.b;
-    images.read(r.target, r.q, b.further(done - 1), 1, &mut buffer[0..size]);
+    read_on(
+        r.target,
+        r.q,
+        b.further(done - 1),
+        1,
+        &mut buffer[0..size],
+        images,
+    );
 }

@@ -7,6 +7,7 @@ ghost use Rattle.pouring.specs.Lent.{lent, SameLent};
 ghost use Rattle.pouring.specs.Promises.{turn_most, Underway, after_turn, TurnedTo};
 
 use crate::images::{Images, store_sectors};
+use base::bytes::copy_within;
 use copying::route::{CopyFault, Route};
 use geometry::params::{Lba, Params};
 use sectors::transfer::{Done, sectors_here};
@@ -61,7 +62,7 @@ fn move_front(bytes: &mut [u8], start: usize, end: usize)
     requires { (start ≤ end) × (end ≤ length bytes.old) × (end - start ≤ 512) }
     ensures { bytes.new ≡ splice 0 (part start (end - start) bytes.old) bytes.old }
 {
-    bytes.copy_within(start..end, 0);
+    copy_within(bytes, start, 0, end - start);
 }
 
 // How far a turn came. A destination fault ends the copy, and counts the source sectors that its sector needed; else a source fault.

@@ -1,6 +1,6 @@
 -- Laws of slots noted by sector, and of the loop that looks at slots until one is noted.
 use mathlib.Core.Path.{◌≡◌, refl, sym, ap, ◌∙◌}
-use mathlib.Core.Bool.{Bool, true, false, ◌&&◌, and-false, true≢false}
+use mathlib.Core.Bool.{Bool, true, false, not, ◌&&◌, and-false, true≢false}
 use mathlib.Core.Option as Math
 use mathlib.Core.Option.{none, some, or_else}
 use mathlib.Core.List.{List}
@@ -12,7 +12,7 @@ use lib.ListN.{length, get_or, set, length-set}
 use lib.Seq.{get_or-set_same, get_or-set_other}
 use lib.Dec.{eqb, ltb}
 use borrow.Author.Tests.{lt-ltb, le-ltb, eq-eqb, ne_eqb, eqb-true}
-use Rattle.std.specs.Option.{is_some, is_none}
+use Rattle.std.specs.Option.{is_some, is_none, option_eq}
 use Rattle.std.specs.declared.option.Option.TheVariants.{Some, None}
 use Rattle.base.specs.Pick.{pick}
 use Rattle.base.specs.First.{first_from, first_below}
@@ -50,6 +50,11 @@ module _ (test : ℕ → Bool) where
   pub first_kept : (k n i : ℕ) → k ≤ n → first_below test k ≡ some i → first_below test n ≡ some i
   unfolding first_below or_else
   first_kept k n i h e = let z : k + (n - k) ≡ n = omega arith in rw e at (rw z at (first_then test 0 k (n - k)))
+
+-- a note compared with none; the edit last_match needs it, whose test is a `==`
+pub none_eq : (x : Note) (b : Bool) → b ≡ option_eq eqb x None → is_some x ≡ not b
+none_eq None b e = rw e refl
+none_eq (Some j) b e = rw e refl
 
 -- ---- a slot with an ID noted
 -- the code's tests, on the ID's bytes

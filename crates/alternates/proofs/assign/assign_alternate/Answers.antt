@@ -14,7 +14,7 @@ failed-requires c =
     let h₂ : get_or c.args.given.now 2 0 < 256 = omega (arith, c.type_inv.given 2) in
     let below = alternate_below _ _ c.alternate_of-alternate.ensures h₁ h₂ in
     let fault = fault_below _ _ _ _ _ _ c.assign_faults.ensures address_limit c.requires.0.block.address below _ _ (ap fault_verdict c.in-Err.is) in
-    (c.requires.0.block.drive, c.requires.0.block.drive, fault)
+    (c.requires.0.block.drive, c.requires.0.block.drive, fault.1)
 
 pub returns-in-Err : goal.returns-in-Err
 returns-in-Err c =

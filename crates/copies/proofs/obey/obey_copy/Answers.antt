@@ -15,7 +15,7 @@ judge_copy-requires c =
 pub failed-requires : goal.failed-requires
 failed-requires c =
     let fits = copy_below _ _ _ c.requires.from c.requires.to _ c.in-Err.ensures _ _ (ap stop_verdict c.in-Fail.is) in
-    (c.requires.from.drive, fits.0, fits.1)
+    (c.requires.from.drive, fits.0, fits.2)
 
 pub copy_with-requires : goal.copy_with-requires
 copy_with-requires c =

@@ -11,7 +11,7 @@ judge-requires c =
 pub failed-requires : goal.failed-requires
 failed-requires c =
     let is = ap as_verdict c.in-Err-Fail.is ∙ ap stop_verdict c.in-Err-Fail.field-0-is in
-    (c.requires.drive, c.requires.drive, rw c.in-Err-Fail.at-is (fault_below _ _ _ _ _ c.judge.ensures _ _ is c.requires.address))
+    (c.requires.drive, c.requires.drive, rw c.in-Err-Fail.at-is (fault_below _ _ _ _ _ c.judge.ensures _ _ is c.requires.address).1)
 
 pub carry_out-requires : goal.carry_out-requires
 carry_out-requires c =

@@ -4,8 +4,8 @@ use Rattle.geometry.proofs.config.label_setting.Goals as goal
 pub returns-then-image-lt16 : goal.returns-then-image-lt16
 returns-then-image-lt16 c = label_short _ _ c.if-image-lt16.true
 
-pub returns-then-ne : goal.returns-then-ne
-returns-then-ne c = label_other _ _ _ c.ne.ensures c.if-ne.true
+pub returns-then-rest-ne0 : goal.returns-then-rest-ne0
+returns-then-rest-ne0 c = label_other _ _ c.if-image-lt16.false _ c.from_be_bytes-rest.ensures c.if-rest-ne0.true
 
 pub returns : goal.returns
-returns c = label_zeros _ _ _ c.ne.ensures c.if-ne.false _ c.config_in.ensures _ c.setting_of.ensures
+returns c = label_zeros _ _ c.if-image-lt16.false _ c.from_be_bytes-rest.ensures c.if-rest-ne0.false _ c.config_in.ensures _ c.setting_of.ensures

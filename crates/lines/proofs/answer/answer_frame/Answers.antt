@@ -8,6 +8,6 @@ tell-requires c =
 
 pub returns-clause-says : goal.returns-clause-says
 returns-clause-says c =
-    frame_answered _ c.args.frame.now c.args.area.now c.execute-outcome.new.area _ _ _ _ _ _ _ _ _
-    c.requires c.execute-outcome.auto.area c.block_length.ensures c.min-n.ensures c.min-handed.ensures
+    frame_answered _ c.args.frame.now c.args.area.now c.execute-outcome.new.area _ _ _ _ _ _ _ _ _ _ _
+    (search rules) (search rules) c.requires c.execute-outcome.auto.area c.block_length.ensures c.min-n.ensures c.min-handed.ensures
     c.execute-outcome.ensures.left c.tell.ensures

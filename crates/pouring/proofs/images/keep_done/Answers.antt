@@ -9,4 +9,4 @@ returns-then-done-eq0 c = none_kept _ _ _ _ c.if-done-eq0.true
 
 pub returns : goal.returns
 returns c =
-    one_kept _ _ _ _ c.if-done-eq0.false c.requires.1 c.requires.2 (let whole : length c.args.buffer.now ≡ 512 = search rules in whole) _ c.further.ensures _ _ c.read.ensures
+    one_kept _ _ _ _ c.if-done-eq0.false c.requires.1 c.requires.2 (let whole : length c.args.buffer.now ≡ 512 = search rules in whole) _ c.further.ensures _ _ c.read_on.ensures

@@ -1,0 +1,6 @@
+use mathlib.Core.Path.{◌∙◌}
+use Rattle.hex_text.proofs.Frames.{reset_pointwise}
+use Rattle.hex_text.proofs.frame.is_reset.Goals as goal
+
+pub returns : goal.returns
+returns c = c.eq.ensures ∙ reset_pointwise c.args.frame.now
