@@ -6,16 +6,9 @@ use native.Mathlib.Omega.{arith}
 use lib.ListN.{length, take, drop, replicate, length-append, length-take, length-drop, length-replicate}
 use lib.Seq.{take_at, take-append-add, length-take-le}
 use borrow.Rule.Slice.PartMut.{put_mid}
-use Rattle.std.specs.List.{copy_within}
 use Rattle.base.specs.Part.{part, splice}
 use Rattle.base.proofs.Parts.{length_part, splice_lent}
 use Rattle.sectors.proofs.Laws.{front_lent, drop_take}
-
-pub moved_front : (start end : ℕ) (bytes after : List ℕ) → start ≤ end → end ≤ length bytes → after ≡ copy_within bytes start end 0
-    → after ≡ splice 0 (part start (end - start) bytes) bytes
-unfolding splice part
-moved_front start end bytes after le most e =
-    e ∙ ap (λ (n : ℕ). take (end - start) (drop start bytes) ++ drop (0 + n) bytes) (sym (length_part start (end - start) bytes (omega arith)))
 
 -- ---- bytes put behind those that wait, and what is left of them moved to the front
 take_splice : (at : ℕ) (ys xs : List ℕ) → at ≤ length xs → take (at + length ys) (splice at ys xs) ≡ take at xs ++ ys

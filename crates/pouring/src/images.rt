@@ -68,7 +68,8 @@ impl Images<'_> {
     }
 }
 
-// The same, where the four images are lent to be read alone.
+// n sectors of a drive, from address a on, to their places, where the four images are lent to be read alone: no struct can be made then,
+// and one slice may stand for several drives.
 pub fn read_on(
     drive: u8,
     p: Params,
