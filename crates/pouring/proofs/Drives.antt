@@ -10,7 +10,7 @@ use Rattle.geometry.specs.declared.params.Lba.{Lba}
 use Rattle.track.specs.Image.{Fits}
 use Rattle.sectors.specs.declared.transfer.Done.{Done}
 use Rattle.sectors.specs.Transfer.{begun, writing}
-use Rattle.sectors.specs.Promises.{HasWritten}
+use Rattle.sectors.specs.Promises.{HasRead, HasWritten}
 use Rattle.copying.specs.Images.{image_of}
 use Rattle.pouring.specs.declared.images.Images.{Images}
 use Rattle.pouring.specs.Lent.{SameLent}
@@ -41,8 +41,16 @@ same_more a b c s t = record {
   length3 = t.length3 ∙ s.length3;
 }
 
--- ---- four images lent to be read
-pub image_shared : (images : List (Bor (List ℕ))) (drive : ℕ)
-    → (get_or images drive (record { ref_ptr = (0, 0); now = [] })).now ≡ image_of drive (map (λ (i : Bor (List ℕ)). i.now) images)
-unfolding image_of
-image_shared images drive = sym (get_or-map (λ (i : Bor (List ℕ)). i.now) images drive (record { ref_ptr = (0, 0); now = [] }))
+-- ---- four images lent to be read: the one at place i, which is the drive's
+module _ (images : List (Bor (List ℕ))) (drive i : ℕ) (e : i ≡ drive) where
+  image_there : (get_or images i (record { ref_ptr = (0, 0); now = [] })).now ≡ image_of drive (map (λ (b : Bor (List ℕ)). b.now) images)
+  unfolding image_of
+  image_there = rw e (sym (get_or-map (λ (b : Bor (List ℕ)). b.now) images drive (record { ref_ptr = (0, 0); now = [] })))
+
+  pub fits_there : (p : Params) → Fits p (image_of drive (map (λ (b : Bor (List ℕ)). b.now) images)) → Fits p (get_or images i (record { ref_ptr = (0, 0); now = [] })).now
+  fits_there p f = rw image_there f
+
+  pub read_there : (p : Params) (n : ℕ) (a : Lba) (done : Done) (before after : List ℕ)
+      → HasRead p n a (get_or images i (record { ref_ptr = (0, 0); now = [] })).now done before after
+      → HasRead p n a (image_of drive (map (λ (b : Bor (List ℕ)). b.now) images)) done before after
+  read_there p n a done before after h = rw image_there at h
