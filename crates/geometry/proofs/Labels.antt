@@ -1,11 +1,11 @@
 -- What a label gives, as the code decides on it. An image under 16 bytes has no six bytes from place 10 on.
 use mathlib.Core.Path.{◌≡◌, refl, sym, ap, ◌∙◌}
-use mathlib.Core.Bool.{Bool, true, false}
+use mathlib.Core.Bool.{Bool, true, false, not}
 use mathlib.Core.List.{List, [], ◌∷◌, ◌++◌}
 use Prim.Native.Nat.{ℕ, ◌+◌, ◌≤◌, ◌<◌}
 use native.Mathlib.Omega.{arith}
 use native.Mathlib.Decide.{ℕ_discrete, dec_lt}
-use lib.ListN.{length, get_or, length-take, length-drop, length-append}
+use lib.ListN.{length, take, drop, get_or, length-take, length-drop, length-append}
 use lib.Seq.{take_all, drop-cons}
 use lib.Dec.{eqb}
 use lib.Pointwise.{pointwise}
@@ -15,6 +15,7 @@ use Rattle.base.specs.Part.{part}
 use Rattle.base.specs.Same.{same_bytes}
 use Rattle.base.proofs.Decide.{pick_true, pick-false}
 use Rattle.base.proofs.Parts.{part_left, part_right, part_part}
+use Rattle.base.proofs.Bools.{not-true, not-false}
 use Rattle.base.proofs.Sames.{same_self, same_eq, same_pointwise}
 use Rattle.geometry.specs.declared.params.Params.{Params}
 use Rattle.geometry.specs.declared.medium.Medium.{Medium}
@@ -80,21 +81,38 @@ module _ (medium : Medium) (image : List ℕ) where
   unfolding label_setting
   label_short h = sym (pick-false _ _ _ (not_same _ _ (part_short 10 6 image (omega arith) h)))
 
-  -- as the code compares the six bytes: as one number, high byte first
-  module _ (long : 16 ≤ length image) (number : ℕ)
-      (is : number ≡ from_be_bytes w64 (0 ∷ 0 ∷ get_or image 10 0 ∷ get_or image 11 0 ∷ get_or image 12 0 ∷ get_or image 13 0 ∷ get_or image 14 0 ∷ get_or image 15 0 ∷ [])) where
-    zeros : same_bytes (part 10 6 image) label_rest ≡ eqb number 0
-    zeros = ap (λ (l : List ℕ). same_bytes l label_rest) (six image long) ∙ six_zeros _ _ _ _ _ _ ∙ ap (λ (n : ℕ). eqb n 0) (sym is)
+  -- as a slice's `!=` compares the six bytes, of an image of any length
+  module _ (differ : Bool) (is : differ ≡ not (pointwise eqb (take 6 (drop 10 image)) label_rest)) where
+    zeros : (b : Bool) → pointwise eqb (take 6 (drop 10 image)) label_rest ≡ b → same_bytes (part 10 6 image) label_rest ≡ b
+    unfolding part
+    zeros b e = sym (same_pointwise _ _) ∙ e
 
-    pub label_other : (number ≡ 0 → ⊥) → None ≡ label_setting medium image
+    pub label_other : differ ≡ true → None ≡ label_setting medium image
     unfolding label_setting
-    label_other ne = sym (pick-false _ _ _ (zeros ∙ ne_eqb number 0 ne))
+    label_other t = sym (pick-false _ _ _ (zeros false (not-true _ (sym is ∙ t))))
 
-    pub label_zeros : number ≡ 0 → (config : List ℕ) → config ≡ label_config image → (s : Setting) → s ≡ setting_of medium config (length image)
+    pub label_zeros : differ ≡ false → (config : List ℕ) → config ≡ label_config image → (s : Setting) → s ≡ setting_of medium config (length image)
         → s ≡ label_setting medium image
     unfolding label_setting
-    label_zeros z config c s e =
-        e ∙ ap (λ (l : List ℕ). setting_of medium l (length image)) c ∙ sym (pick_true _ _ _ (zeros ∙ eq-eqb number 0 z))
+    label_zeros t config c s e =
+        e ∙ ap (λ (l : List ℕ). setting_of medium l (length image)) c ∙ sym (pick_true _ _ _ (zeros true (not-false _ (sym is ∙ t))))
+
+  -- as the code compares them: as one number, high byte first
+  module _ (long : 16 ≤ length image) (number : ℕ)
+      (is : number ≡ from_be_bytes w64 (0 ∷ 0 ∷ get_or image 10 0 ∷ get_or image 11 0 ∷ get_or image 12 0 ∷ get_or image 13 0 ∷ get_or image 14 0 ∷ get_or image 15 0 ∷ [])) where
+    compared : not (eqb number 0) ≡ not (pointwise eqb (take 6 (drop 10 image)) label_rest)
+    unfolding part
+    compared =
+        let same : same_bytes (part 10 6 image) label_rest ≡ eqb number 0 =
+        ap (λ (l : List ℕ). same_bytes l label_rest) (six image long) ∙ six_zeros _ _ _ _ _ _ ∙ ap (λ (n : ℕ). eqb n 0) (sym is) in
+        ap not (sym same ∙ sym (same_pointwise _ _))
+
+    pub label_other_by_number : (number ≡ 0 → ⊥) → None ≡ label_setting medium image
+    label_other_by_number ne = label_other (not (eqb number 0)) compared (ap not (ne_eqb number 0 ne))
+
+    pub label_zeros_by_number : number ≡ 0 → (config : List ℕ) → config ≡ label_config image
+        → (s : Setting) → s ≡ setting_of medium config (length image) → s ≡ label_setting medium image
+    label_zeros_by_number z = label_zeros (not (eqb number 0)) compared (ap not (eq-eqb number 0 z))
 
 -- ---- A valid label, and what it holds
 not_valid : (p : Params) → None ≡ Some p → ⊥
