@@ -100,12 +100,12 @@ module _ (medium : Medium) (image : List ℕ) where
   -- as the code compares them: as one number, high byte first
   module _ (long : 16 ≤ length image) (number : ℕ)
       (is : number ≡ from_be_bytes w64 (0 ∷ 0 ∷ get_or image 10 0 ∷ get_or image 11 0 ∷ get_or image 12 0 ∷ get_or image 13 0 ∷ get_or image 14 0 ∷ get_or image 15 0 ∷ [])) where
+    zeros_by_number : same_bytes (part 10 6 image) label_rest ≡ eqb number 0
+    zeros_by_number = ap (λ (l : List ℕ). same_bytes l label_rest) (six image long) ∙ six_zeros _ _ _ _ _ _ ∙ ap (λ (n : ℕ). eqb n 0) (sym is)
+
     compared : not (eqb number 0) ≡ not (pointwise eqb (take 6 (drop 10 image)) label_rest)
     unfolding part
-    compared =
-        let same : same_bytes (part 10 6 image) label_rest ≡ eqb number 0 =
-        ap (λ (l : List ℕ). same_bytes l label_rest) (six image long) ∙ six_zeros _ _ _ _ _ _ ∙ ap (λ (n : ℕ). eqb n 0) (sym is) in
-        ap not (sym same ∙ sym (same_pointwise _ _))
+    compared = ap not (sym zeros_by_number ∙ sym (same_pointwise _ _))
 
     pub label_other_by_number : (number ≡ 0 → ⊥) → None ≡ label_setting medium image
     label_other_by_number ne = label_other (not (eqb number 0)) compared (ap not (ne_eqb number 0 ne))
