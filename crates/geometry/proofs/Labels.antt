@@ -81,7 +81,7 @@ module _ (medium : Medium) (image : List ℕ) where
   unfolding label_setting
   label_short h = sym (pick-false _ _ _ (not_same _ _ (part_short 10 6 image (omega arith) h)))
 
-  -- as a slice's `!=` compares the six bytes, of an image of any length
+  -- told by a slice's `!=` of the six bytes, whatever the image's length: for other crates, and for what follows
   module _ (differ : Bool) (is : differ ≡ not (pointwise eqb (take 6 (drop 10 image)) label_rest)) where
     zeros : (b : Bool) → pointwise eqb (take 6 (drop 10 image)) label_rest ≡ b → same_bytes (part 10 6 image) label_rest ≡ b
     unfolding part
@@ -97,12 +97,13 @@ module _ (medium : Medium) (image : List ℕ) where
     label_zeros t config c s e =
         e ∙ ap (λ (l : List ℕ). setting_of medium l (length image)) c ∙ sym (pick_true _ _ _ (zeros true (not-false _ (sym is ∙ t))))
 
-  -- as the code compares them: as one number, high byte first
+  -- told by the six bytes as one number, high byte first, as the code compares them
   module _ (long : 16 ≤ length image) (number : ℕ)
       (is : number ≡ from_be_bytes w64 (0 ∷ 0 ∷ get_or image 10 0 ∷ get_or image 11 0 ∷ get_or image 12 0 ∷ get_or image 13 0 ∷ get_or image 14 0 ∷ get_or image 15 0 ∷ [])) where
     zeros_by_number : same_bytes (part 10 6 image) label_rest ≡ eqb number 0
     zeros_by_number = ap (λ (l : List ℕ). same_bytes l label_rest) (six image long) ∙ six_zeros _ _ _ _ _ _ ∙ ap (λ (n : ℕ). eqb n 0) (sym is)
 
+    -- the number is other than 0 exactly where the slices differ
     compared : not (eqb number 0) ≡ not (pointwise eqb (take 6 (drop 10 image)) label_rest)
     unfolding part
     compared = ap not (sym zeros_by_number ∙ sym (same_pointwise _ _))
